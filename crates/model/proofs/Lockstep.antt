@@ -1,0 +1,226 @@
+-- Two runs in lockstep: what all but one source see stays equal, turn by turn, to the end.
+use Prim.Native.Nat.{ℕ, zero, suc, _+_, _*_, _-_, _<_, zero-le, suc-le-suc}
+use mathlib.Core.Path.{_≡_, refl, sym, _∙_, ap, ap₂, subst}
+use mathlib.Core.Logic.{_≢_}
+use mathlib.Core.Bool.{Bool, true, false, cond}
+use mathlib.Core.List.{List, [], _∷_, _++_}
+use lib.ListN.{length, getD, drop, replicate, length-append}
+use lib.Seq.{getD-drop}
+use lib.Dec.{ltb}
+use native.Mathlib.Numerals.{one-add}
+use Rattle.model.specs.Execution.{callOf}
+use Rattle.model.specs.Run.{Process, Processes, Sent, Common, State, Outcome, entry, refill, step, command, stopped, at, put, each, process, withProcess, shown, source, fill, takes, received, receive, columns, send, share, counted, lead, waits, followed, follow, turn, lineLength, written, short, allUsed, noRoom, verdict, ended, settle, run, initial}
+use Rattle.model.specs.declared.Entry.{Entry}
+use Rattle.model.specs.declared.Entry.the-variants.{Absent, Number}
+use Rattle.model.specs.declared.Command.{Command}
+use Rattle.model.specs.declared.Call.{Call}
+use Rattle.model.specs.declared.Call.the-variants.{Neither, Receives, Sends}
+use Rattle.model.specs.declared.Level.{Level}
+use Rattle.model.specs.declared.Level.the-variants.{Low, High}
+use Rattle.model.specs.declared.Key.{Key}
+use Rattle.model.specs.declared.Key.the-variants.{Open, Secret}
+use Rattle.model.specs.declared.Ending.{Ending}
+use Rattle.model.specs.declared.Ending.the-variants.{Stopped, LettersUsed, NoRoom}
+use Rattle.model.specs.declared.Verdict.{Verdict}
+use Rattle.model.specs.declared.Verdict.the-variants.{GoesOn, Ends}
+use Rattle.model.specs.declared.Counts.{Counts}
+
+-- ---- The laws of levels: all that depends on how many there are
+
+abbrev isLow : Level → Type 0
+isLow Low = Unit {0}
+isLow High = ⊥
+
+pub low≢high : Low ≢ High
+low≢high e = subst isLow e tt
+
+-- the process of level m after a change of level l: the new one where they are one level, else as before
+pub data Changed (l m : Level) : Type 0 where
+  same : l ≡ m → ((p : Process) (ps : Processes) → at m (put l p ps) ≡ p) → Changed l m
+  other : ((p : Process) (ps : Processes) → at m (put l p ps) ≡ at m ps) → Changed l m
+
+pub changed : (l m : Level) → Changed l m
+unfolding at put
+changed Low Low = same refl (λ p ps. refl)
+changed Low High = other (λ p ps. refl)
+changed High Low = other (λ p ps. refl)
+changed High High = same refl (λ p ps. refl)
+
+pub at-each : (f : Level → Process → Process) (l : Level) (ps : Processes) → at l (each f ps) ≡ f l (at l ps)
+unfolding at each
+at-each f Low ps = refl
+at-each f High ps = refl
+
+-- an execution other than o's is shown the same of two entries that are equal unless o owns their key
+pub shown-alike : (o : Level) → Low ≢ o → (l : Level) → l ≢ o → (k : Key) {e f : Entry} → (source k ≢ o → e ≡ f) → shown l k e ≡ shown l k f
+unfolding shown source
+shown-alike o hid Low lo Open h = h hid
+shown-alike o hid Low lo (Secret d) h = refl
+shown-alike o hid High lo Open h = h hid
+shown-alike o hid High lo (Secret d) h = h lo
+
+-- ---- The relation
+
+-- two message lines agree at the keys that o does not own
+abbrev pub LineLike : Level → List Key → List Entry → List Entry → Type 0
+LineLike o ks a b = (k : ℕ) → k < length ks → source (getD ks k Open) ≢ o → getD a k Absent ≡ getD b k Absent
+
+abbrev pub RestLike : Level → List Key → List (List Entry) → List (List Entry) → Type 0
+RestLike o ks [] [] = Unit {0}
+RestLike o ks [] (b ∷ bs) = ⊥
+RestLike o ks (a ∷ xs) [] = ⊥
+RestLike o ks (a ∷ xs) (b ∷ bs) = LineLike o ks a b × RestLike o ks xs bs
+
+-- the columns of two sent lines
+pub data Agree (o : Level) : List Key → List Entry → List Entry → Type 0 where
+  done : Agree o [] [] []
+  next : {k : Key} {ks : List Key} {e f : Entry} {es fs : List Entry} → (source k ≢ o → e ≡ f) → Agree o ks es fs → Agree o (k ∷ ks) (e ∷ es) (f ∷ fs)
+
+pub record LinesAgree (o : Level) (ks : List Key) (x y : Sent) : Type 0 where
+  pub position : x .position ≡ y .position
+  pub columns : Agree o ks (x .columns) (y .columns)
+
+pub data SentLike (o : Level) (ks : List Key) : List Sent → List Sent → Type 0 where
+  none : SentLike o ks [] []
+  more : {x y : Sent} {xs ys : List Sent} → LinesAgree o ks x y → SentLike o ks xs ys → SentLike o ks (x ∷ xs) (y ∷ ys)
+
+pub record CommonLike (o : Level) (ks : List Key) (s t : Common) : Type 0 where
+  pub rest : RestLike o ks (s .rest) (t .rest)
+  pub taken : s .taken ≡ t .taken
+  pub sent : SentLike o ks (s .sent) (t .sent)
+  pub positions : s .positions ≡ t .positions
+  pub steps : s .steps ≡ t .steps
+
+pub record Like (o : Level) (ks : List Key) (s t : State) : Type 0 where
+  pub processes : (l : Level) → l ≢ o → process l s ≡ process l t
+  pub common : CommonLike o ks (s .common) (t .common)
+
+pub record Same (o : Level) (ks : List Key) (x y : Outcome) : Type 0 where
+  pub ending : x .ending ≡ y .ending
+  pub counts : x .counts ≡ y .counts
+  pub lines : SentLike o ks (x .lines) (y .lines)
+
+-- ---- Its parts
+
+pub sent-snoc : (o : Level) (ks : List Key) {xs ys : List Sent} {x y : Sent} → SentLike o ks xs ys → LinesAgree o ks x y → SentLike o ks (xs ++ (x ∷ [])) (ys ++ (y ∷ []))
+sent-snoc o ks none h = more h none
+sent-snoc o ks (more g r) h = more g (sent-snoc o ks r h)
+
+pub sent-count : (o : Level) (ks : List Key) {xs ys : List Sent} → SentLike o ks xs ys → length xs ≡ length ys
+sent-count o ks none = refl
+sent-count o ks (more g r) = ap suc (sent-count o ks r)
+
+-- the part of two lines from key 1 on
+tail-alike : (o : Level) (k : Key) (ks : List Key) (a b : List Entry) → LineLike o (k ∷ ks) a b → LineLike o ks (drop 1 a) (drop 1 b)
+tail-alike o k ks a b h i below own = getD-drop 1 a i Absent ∙ ap (λ (n : ℕ). getD a n Absent) (one-add i) ∙ h (suc i) (suc-le-suc below) own ∙ sym (getD-drop 1 b i Absent ∙ ap (λ (n : ℕ). getD b n Absent) (one-add i))
+
+pub fill-alike : (o : Level) → Low ≢ o → (l : Level) → l ≢ o → (ks : List Key) (a b : List Entry) → LineLike o ks a b → fill l ks a ≡ fill l ks b
+unfolding fill
+fill-alike o hid l lo [] a b h = refl
+fill-alike o hid l lo (k ∷ ks) a b h = ap₂ _∷_ (shown-alike o hid l lo k (h 0 (suc-le-suc zero-le))) (fill-alike o hid l lo ks (drop 1 a) (drop 1 b) (tail-alike o k ks a b h))
+
+pub columns-alike : (o : Level) (ks : List Key) (s t : State) → Like o ks s t → (i : ℕ) (js : List Key) → Agree o js (columns i js s) (columns i js t)
+unfolding columns
+columns-alike o ks s t h i [] = done
+columns-alike o ks s t h i (j ∷ js) = next (λ own. ap (λ (p : Process). entry p i) (h .processes (source j) own)) (columns-alike o ks s t h (suc i) js)
+
+module _ (o : Level) (hid : Low ≢ o) (ks : List Key) where
+  -- ---- The steps of a turn keep the relation
+
+  received-alike : (xs ys : List (List Entry)) → RestLike o ks xs ys → (l : Level) → l ≢ o → received ks xs l ≡ received ks ys l
+  unfolding received
+  received-alike [] [] r l lo = refl
+  received-alike [] (y ∷ ys) r l lo = absurd r
+  received-alike (x ∷ xs) [] r l lo = absurd r
+  received-alike (x ∷ xs) (y ∷ ys) r l lo = fill-alike o hid l lo ks x y (r .0)
+
+  takes-alike : (xs ys : List (List Entry)) (c d : Common) → RestLike o ks xs ys → CommonLike o ks c d → CommonLike o ks (takes xs c) (takes ys d)
+  unfolding takes
+  takes-alike [] [] c d r h = h
+  takes-alike [] (y ∷ ys) c d r h = absurd r
+  takes-alike (x ∷ xs) [] c d r h = absurd r
+  takes-alike (x ∷ xs) (y ∷ ys) c d r h = record { rest = r .1; taken = ap (λ (n : ℕ). n + 1) (h .taken); sent = h .sent; positions = h .positions; steps = h .steps }
+
+  receive-alike : (s t : State) → Like o ks s t → Like o ks (receive ks s) (receive ks t)
+  unfolding receive
+  receive-alike s t h = record { processes = λ l lo. at-each _ l (s .processes) ∙ ap₂ refill (received-alike _ _ (h .common .rest) l lo) (h .processes l lo) ∙ sym (at-each _ l (t .processes)); common = takes-alike _ _ _ _ (h .common .rest) (h .common) }
+
+  send-alike : (s t : State) → Like o ks s t → Like o ks (send ks s) (send ks t)
+  unfolding send
+  send-alike s t h = let c : CommonLike o ks (s .common) (t .common) = h .common in record { processes = h .processes; common = record { rest = c .rest; taken = c .taken; sent = sent-snoc o ks (c .sent) (record { position = c .positions; columns = columns-alike o ks s t h 0 ks }); positions = c .positions; steps = c .steps } }
+
+  share-alike : (c : Call) (s t : State) → Like o ks s t → Like o ks (share c ks s) (share c ks t)
+  unfolding share
+  share-alike Neither s t h = h
+  share-alike Receives s t h = receive-alike s t h
+  share-alike Sends s t h = send-alike s t h
+
+  counted-alike : (n : ℕ) (s t : State) → Like o ks s t → Like o ks (counted n s) (counted n t)
+  unfolding counted
+  counted-alike n s t h = let c : CommonLike o ks (s .common) (t .common) = h .common in record { processes = h .processes; common = record { rest = c .rest; taken = c .taken; sent = c .sent; positions = ap (λ (m : ℕ). m + 1) (c .positions); steps = ap (λ (m : ℕ). m + n) (c .steps) } }
+
+  put-alike : {l m : Level} → Changed l m → (p q : Process) (s t : State) → (l ≢ o → p ≡ q) → m ≢ o → process m s ≡ process m t → process m (withProcess l p s) ≡ process m (withProcess l q t)
+  put-alike (same e f) p q s t g mo h = f p (s .processes) ∙ g (λ lo. mo (sym e ∙ lo)) ∙ sym (f q (t .processes))
+  put-alike (other f) p q s t g mo h = f p (s .processes) ∙ h ∙ sym (f q (t .processes))
+
+  with-alike : (l : Level) (p q : Process) (s t : State) → (l ≢ o → p ≡ q) → Like o ks s t → Like o ks (withProcess l p s) (withProcess l q t)
+  with-alike l p q s t e h = record { processes = λ m mo. put-alike (changed l m) p q s t e mo (h .processes m mo); common = h .common }
+
+  -- At the low execution: equal low processes stay equal, and so does what all but o see of the message and the output
+  lead-alike : (n : ℕ) (c : Command) (s t : State) → Like o ks s t → Like o ks (lead ks n c s) (lead ks n c t)
+  unfolding lead
+  lead-alike n c s t h = let g : Like o ks (share (callOf (c .op)) ks s) (share (callOf (c .op)) ks t) = share-alike (callOf (c .op)) s t h in with-alike Low _ _ _ _ (λ lo. ap (step n c) (g .processes Low hid)) g
+
+  module _ (cs : List Command) where
+    -- At any other execution: o's own turn changes nothing that the others see, and theirs start from equal processes
+    follow-alike : (l : Level) (s t : State) → Like o ks s t → Like o ks (follow cs l s) (follow cs l t)
+    unfolding follow
+    follow-alike l s t h = with-alike l _ _ s t (λ lo. ap₂ (followed cs) (h .processes Low hid) (h .processes l lo)) h
+
+    turn-alike : (l : Level) (s t : State) → Like o ks s t → Like o ks (turn ks cs l s) (turn ks cs l t)
+    unfolding turn
+    turn-alike Low s t h = counted-alike 1 _ _ (subst (λ (p : Process). Like o ks (lead ks (length cs) (command cs (process Low s)) s) (lead ks (length cs) (command cs p) t)) (h .processes Low hid) (lead-alike (length cs) (command cs (process Low s)) s t h))
+    turn-alike High s t h = counted-alike 0 _ _ (follow-alike High s t h)
+
+    -- ---- The endings
+
+    ended-alike : (e : Ending) (s t : State) → Like o ks s t → Same o ks (ended ks e s) (ended ks e t)
+    unfolding ended written
+    ended-alike e s t h = record { ending = refl; counts = λ i. record { positions = h .common .positions i; steps = h .common .steps i; bytes = lineLength ks * sent-count o ks (h .common .sent) i; taken = h .common .taken i }; lines = h .common .sent }
+
+    short-alike : (room : ℕ) (c : Call) (s t : State) → Like o ks s t → short ks room c s ≡ short ks room c t
+    unfolding short written
+    short-alike room Neither s t h = refl
+    short-alike room Receives s t h = refl
+    short-alike room Sends s t h = ap (λ (n : ℕ). ltb (room - lineLength ks * n) (lineLength ks)) (sent-count o ks (h .common .sent))
+
+    no-room-alike : (room : ℕ) (ls : List Level) (s t : State) → Like o ks s t → noRoom ks cs room ls s ≡ noRoom ks cs room ls t
+    unfolding noRoom
+    no-room-alike room [] s t h = refl
+    no-room-alike room (Low ∷ ls) s t h = short-alike room (callOf (command cs (process Low s) .op)) s t h ∙ ap (λ (p : Process). short ks room (callOf (command cs p .op)) t) (h .processes Low hid)
+    no-room-alike room (High ∷ ls) s t h = refl
+
+    verdict-alike : (room : ℕ) (ls : List Level) (s t : State) → Like o ks s t → verdict ks cs room ls s ≡ verdict ks cs room ls t
+    unfolding verdict
+    verdict-alike room ls s t h =
+        ap₂ (λ (a b : Bool). cond a (Ends Stopped) (cond (allUsed ls) (Ends LettersUsed) (cond b (Ends NoRoom) GoesOn)))
+        (ap (stopped cs) (h .processes Low hid))
+        (no-room-alike room ls s t h)
+
+    settle-same : (v : Verdict) (s t : State) (x y : Outcome) → Like o ks s t → Same o ks x y → Same o ks (settle ks v s x) (settle ks v t y)
+    settle-same GoesOn s t x y h later = later
+    settle-same (Ends e) s t x y h later = ended-alike e s t h
+
+    settle-alike : {v w : Verdict} (s t : State) (x y : Outcome) → v ≡ w → Like o ks s t → Same o ks x y → Same o ks (settle ks v s x) (settle ks w t y)
+    settle-alike {v} {w} s t x y e h later = subst (λ (u : Verdict). Same o ks (settle ks v s x) (settle ks u t y)) e (settle-same v s t x y h later)
+
+    -- ---- The induction over the turns
+
+    pub run-alike : (room : ℕ) (ls : List Level) (s t : State) → Like o ks s t → Same o ks (run ks cs room s ls) (run ks cs room t ls)
+    unfolding run
+    run-alike room [] s t h = settle-alike s t _ _ (verdict-alike room [] s t h) h (ended-alike LettersUsed s t h)
+    run-alike room (l ∷ ls) s t h = settle-alike s t _ _ (verdict-alike room (l ∷ ls) s t h) h (run-alike room ls (turn ks cs l s) (turn ks cs l t) (turn-alike l s t h))
+
+  pub initial-alike : (a b : List (List Entry)) → RestLike o ks a b → Like o ks (initial ks a) (initial ks b)
+  unfolding initial
+  initial-alike a b r = record { processes = λ l lo. refl; common = record { rest = r; taken = refl; sent = none; positions = refl; steps = refl } }

@@ -1,0 +1,105 @@
+-- What a run of a whole sheet answers, prints and leaves in the memories that are lent to it.
+use Prim.Native.Nat.{ℕ, zero, suc, _+_, _*_, _/_, _%_}
+use mathlib.Core.Bool.{Bool, true, false, cond}
+use mathlib.Core.List.{List, [], _∷_, _++_}
+use lib.Dec.{eqb, ltb}
+use lib.ListN.{length, take, getD}
+use Rattle.model.specs.Bytes.{bytes}
+use Rattle.model.specs.Job.{Job}
+use Rattle.model.specs.Reading.{Reading, refused, accepted, readSheet}
+use Rattle.model.specs.Run.{Outcome, runJob}
+use Rattle.model.specs.Output.{memoryAfter}
+use Rattle.model.specs.declared.Ending.{Ending}
+use Rattle.model.specs.declared.Ending.the-variants.{Stopped, LettersUsed, NoRoom}
+use Rattle.model.specs.declared.Counts.{Counts}
+use Rattle.model.specs.declared.Answer.{Answer}
+use Rattle.model.specs.declared.Answer.the-variants.{Ended, Refused}
+
+-- the number of an ending, "From the state"
+abbrev pub endingNumber : Ending → ℕ
+endingNumber Stopped = 0
+endingNumber LettersUsed = 31
+endingNumber NoRoom = 32
+
+-- "Six numbers: ending or refusal number, line, positions used, low steps, bytes written, messages taken." From the input: "the four counts are
+-- 0"; from the state: "the line number is 0".
+unfoldable pub numbersOf : Answer → List ℕ
+numbersOf (Ended e c) = endingNumber e ∷ 0 ∷ c .positions ∷ c .steps ∷ c .bytes ∷ c .taken ∷ []
+numbersOf (Refused n l) = n ∷ l ∷ 0 ∷ 0 ∷ 0 ∷ 0 ∷ []
+
+-- What a run of a sheet leaves: its answer, and the output memory
+pub record Left : Type 0 where
+  pub answer : Answer
+  pub memory : List ℕ
+
+abbrev pub leftBy : List ℕ → Outcome → Left
+leftBy m o = record { answer = Ended (o .ending) (o .counts); memory = memoryAfter m (o .lines) }
+
+-- of a refused sheet "Output memory is untouched"
+abbrev pub leave : List ℕ → Reading → Left
+leave m (refused n l) = record { answer = Refused n l; memory = m }
+leave m (accepted j) = leftBy m (runJob j (length m))
+
+-- a sheet s, and the output memory m that is lent to its run
+unfoldable pub runSheet : List ℕ → List ℕ → Left
+runSheet s m = leave m (readSheet s)
+
+-- ---- `runsheet`
+
+-- a number at its natural width: its decimal digits, at most f of them, before those that stand already
+unfoldable pub decimal : ℕ → ℕ → List ℕ → List ℕ
+decimal zero n s = s
+decimal (suc f) n s = cond (ltb n 10) ((48 + n) ∷ s) (decimal f (n / 10) ((48 + n % 10) ∷ s))
+
+-- a number of 32 bits has at most ten digits
+unfoldable pub natural : ℕ → List ℕ
+natural n = decimal 10 n []
+
+-- "single spaces between"
+unfoldable pub spaced : List ℕ → List ℕ
+spaced [] = []
+spaced (n ∷ []) = natural n
+spaced (n ∷ k ∷ ns) = natural n ++ (32 ∷ spaced (k ∷ ns))
+
+-- "`end=` with the six numbers, single spaces between and a line feed last"
+unfoldable pub report : List ℕ → List ℕ
+report ns = bytes "end=" ++ (spaced ns ++ (10 ∷ []))
+
+-- the bytes written, the fifth of the six numbers
+abbrev pub bytesWritten : List ℕ → ℕ
+bytesWritten ns = getD ns 4 0
+
+abbrev pub printedBy : Left → List ℕ
+printedBy l = take (bytesWritten (numbersOf (l .answer))) (l .memory) ++ report (numbersOf (l .answer))
+
+-- "prints the sent lines and then `end=`"
+unfoldable pub printed : List ℕ → List ℕ → List ℕ
+printed s m = printedBy (runSheet s m)
+
+-- ---- The C entry
+
+-- "32 bits each, low byte first"
+unfoldable pub le32 : ℕ → List ℕ
+le32 n = n % 256 ∷ n / 256 % 256 ∷ n / 65536 % 256 ∷ n / 16777216 % 256 ∷ []
+
+unfoldable pub allLe32 : List ℕ → List ℕ
+allLe32 [] = []
+allLe32 (n ∷ ns) = le32 n ++ allLe32 ns
+
+-- the return, and both lent memories as a call leaves them
+pub record After : Type 0 where
+  pub returned : ℕ
+  pub output : List ℕ
+  pub answer : List ℕ
+
+-- "The six numbers go there in 32 bits each, low byte first, and the first is also the return."
+abbrev pub answeredBy : Left → After
+answeredBy l = record { returned = getD (numbersOf (l .answer)) 0 0; output = l .memory; answer = allLe32 (numbersOf (l .answer)) }
+
+-- the six numbers, 32 bits each
+abbrev pub answerBytes : ℕ
+answerBytes = 24
+
+-- Refusal 10: "the answer memory is not exactly 24 bytes; returned before anything else, nothing written"
+unfoldable pub entry : List ℕ → List ℕ → List ℕ → After
+entry s m a = cond (eqb (length a) answerBytes) (answeredBy (runSheet s m)) (record { returned = 10; output = m; answer = a })

@@ -1,0 +1,63 @@
+-- The examples of document 01 that are marked P, from the text of the sheet to the printed bytes and numbers.
+use Prim.Native.Nat.{ℕ}
+use Prim.Native.String.{String}
+use mathlib.Core.Path.{_≡_}
+use mathlib.Core.List.{List, [], _∷_, _++_}
+use lib.ListN.{replicate}
+use lib.IntN.{ℤ, pos, negsuc}
+use Rattle.model.specs.Bytes.{bytes}
+use Rattle.model.specs.Execution.{variable, does}
+use Rattle.model.specs.Answer.{printed}
+use Rattle.model.specs.declared.Op.{Op}
+use Rattle.model.specs.declared.Op.the-variants.{Add, Div}
+use Rattle.model.specs.declared.Entry.the-variants.{Absent}
+
+-- An example: a sheet, run with so many bytes lent, prints a text; a command on two numbers gives a third
+pub data Example : Type 0 where
+  prints : List ℕ → ℕ → String → Example
+  gives : Op → ℤ → ℤ → ℤ → Example
+
+-- what variable 0 holds after a command on the variables 0 and 1, which hold a and b
+unfoldable pub result : Op → ℤ → ℤ → ℤ
+result o a b = variable (does 1 (record { op = o; v = 0; w = 1; k = 0; t = 0; n = pos 0 }) (record { place = 0; vars = a ∷ b ∷ []; calls = 0 }) Absent .execution) 0
+
+abbrev pub Holds : Example → Type 0
+Holds (prints s lent t) = printed s (replicate lent 0) ≡ bytes t
+Holds (gives o a b c) = result o a b ≡ c
+
+abbrev pub AllHold : List Example → Type 0
+AllHold [] = Unit {0}
+AllHold (e ∷ es) = Holds e × AllHold es
+
+-- Sheet A, with what follows `msg=` and `turns=`
+unfoldable pub sheetA : String → String → List ℕ
+sheetA m t =
+    bytes "sheet=1\nkeys=2\nsecret=1:300\ndo=receive\ndo=read 0 1\ndo=put 1 0\ndo=send\ndo=stop\nmsg="
+    ++ (bytes m ++ (bytes "\nturns=" ++ (bytes t ++ bytes "\n")))
+
+unfoldable pub sheet8 : List ℕ
+sheet8 = bytes "sheet=1\nkeys=1\nsecret=0:0\ndo=receive\ndo=read 0 0\ndo=ifzero 0 4\ndo=send\ndo=stop\nmsg=0:9\nturns=LHLHLHLH\n"
+
+-- what `runsheet` lends
+abbrev pub lentByRunsheet : ℕ
+lentByRunsheet = 32768
+
+-- P1 to P11, in their order; P7 and P9 are several
+unfoldable pub list : List Example
+list =
+    prints (sheetA "0:1500,1:1480" "LHLHLHLHLH") lentByRunsheet "sent=0006 +0000001500 +0000001480\nend=0 0 9 5 34 1\n"
+    ∷ prints (sheetA "0:1500,1:-7" "LHLHLHLHLH") lentByRunsheet "sent=0006 +0000001500 -0000000007\nend=0 0 9 5 34 1\n"
+    ∷ prints (sheetA "0:1500" "LHLHLHLHLH") lentByRunsheet "sent=0006 +0000001500 +0000000000\nend=0 0 9 5 34 1\n"
+    ∷ prints (sheetA "0:1500,1:1480" "LHLH") lentByRunsheet "end=31 0 4 2 0 1\n"
+    ∷ prints (sheetA "0:1500,1:1480" "LLLLL") lentByRunsheet "sent=0003 +0000001500 +0000001480\nend=0 0 5 5 34 1\n"
+    ∷ prints (sheetA "0:1500,1:1480" "H") lentByRunsheet "end=31 0 1 0 0 0\n"
+    ∷ prints (sheetA "0:1500,1:1480" "LHLHLHLHLH") 33 "end=32 0 6 3 0 1\n"
+    ∷ prints (sheetA "0:1500,1:1480" "LHLHLHLHLH") 34 "sent=0006 +0000001500 +0000001480\nend=0 0 9 5 34 1\n"
+    ∷ prints sheet8 lentByRunsheet "end=0 0 7 4 0 1\n"
+    ∷ gives Div (pos 7) (negsuc 1) (negsuc 2)
+    ∷ gives Div (negsuc 6) (pos 2) (negsuc 2)
+    ∷ gives Div (pos 5) (pos 0) (pos 0)
+    ∷ gives Div (negsuc 2147483647) (negsuc 0) (pos 2147483647)
+    ∷ gives Add (pos 2147483647) (pos 1) (pos 2147483647)
+    ∷ prints [] lentByRunsheet "end=2 1 0 0 0 0\n"
+    ∷ []

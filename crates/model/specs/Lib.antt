@@ -1,0 +1,19 @@
+-- Document 01 as definitions, in its order; then what is claimed of them.
+pub mod Limits
+pub mod Parsed
+pub mod Bytes
+pub mod Number
+pub mod Commands
+pub mod Job
+pub mod Line
+pub mod Phase
+pub mod Reading
+pub mod Arithmetic
+pub mod Execution
+pub mod Run
+pub mod Output
+pub mod Answer
+pub mod Secrecy
+pub mod Counts
+pub mod Accepted
+pub mod Examples
