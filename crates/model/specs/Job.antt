@@ -1,9 +1,9 @@
 -- A job: what an accepted sheet says.
-use Prim.Native.Nat.{ℕ}
+use Prim.Native.Nat.{ℕ, _≤_}
 use mathlib.Core.Bool.{Bool, true, false, cond}
 use mathlib.Core.List.{List, map}
 use lib.Dec.{eqb}
-use lib.ListN.{take}
+use lib.ListN.{length, take}
 use Rattle.model.specs.declared.Entry.{Entry}
 use Rattle.model.specs.declared.Key.{Key}
 use Rattle.model.specs.declared.Command.{Command}
@@ -53,3 +53,10 @@ jobOf r =
       messages = map (entriesIn (r .keys)) (take (r .lines) (r .messages));
       turns = map levelOf (take (r .letters) (r .turns));
     }
+
+-- what counts of an array is there
+pub record Stored (r : StoredJob) : Type 0 where
+  pub keys : r .keys ≤ length (r .secrets)
+  pub count : r .count ≤ length (r .commands)
+  pub lines : r .lines ≤ length (r .messages)
+  pub letters : r .letters ≤ length (r .turns)

@@ -1,0 +1,259 @@
+-- Laws of the definitions on bytes and numbers, in the form in which a loop over a slice meets them: at a place i of the list s.
+use mathlib.Core.Path.{_≡_, refl, sym, ap, _∙_}
+use mathlib.Core.List.{List, [], _∷_}
+use mathlib.Core.Bool.{Bool, true, false, cond, _&&_}
+use Prim.Native.Nat.{ℕ, suc, _+_, _-_, _*_, _<_, _≤_, pred}
+use native.Mathlib.Numerals.{add-one}
+use native.Mathlib.Omega.{arith}
+use lib.Dec.{eqb, leb}
+use lib.ListN.{length, getD, take, drop, drop-of-length-le, length-drop}
+use lib.Seq.{drop-cons, take-all}
+use lib.IntN.{ℤ, pos, negsuc}
+use borrow.Author.Tests.{eq-eqb, ne-eqb, leb-true, le-leb, lt-leb}
+use Rattle.model.specs.Parsed.{Parsed, ok, bad, need, _>>=_, _>>_}
+use Rattle.model.specs.Number.{digits, digitsTo, within, upTo, fromOne, natural, negative, positive, number}
+use Rattle.model.specs.Bytes.{find, count, classOf, between}
+use Rattle.model.specs.Reading.{forbiddenLine, closed}
+use Rattle.text.specs.Prefix.{starts}
+
+-- one byte of what is left
+pub uncons : (s : List ℕ) (i : ℕ) → i < length s → drop i s ≡ getD s i 0 ∷ drop (i + 1) s
+uncons s i h = rw (add-one, drop-cons s i 0 h)
+
+pub done : (s : List ℕ) (i : ℕ) → length s ≤ i → drop i s ≡ []
+done s i h = drop-of-length-le s h
+
+pub find-here : (c : ℕ) (s : List ℕ) (i : ℕ) → i < length s → getD s i 0 ≡ c → find c (drop i s) ≡ 0
+unfolding find
+find-here c s i h e = rw (uncons s i h, eq-eqb _ _ e)
+
+pub find-next : (c : ℕ) (s : List ℕ) (i : ℕ) → i < length s → (getD s i 0 ≡ c → ⊥) → find c (drop i s) ≡ suc (find c (drop (i + 1) s))
+unfolding find
+find-next c s i h n = rw (uncons s i h, ne-eqb _ _ n)
+
+pub find-end : (c : ℕ) (s : List ℕ) (i : ℕ) → length s ≤ i → find c (drop i s) ≡ 0
+unfolding find
+find-end c s i h = rw (done s i h)
+
+pub forbidden-here : (n : ℕ) (s : List ℕ) (i : ℕ) → i < length s → classOf (getD s i 0) ≡ 10 → forbiddenLine n (drop i s) ≡ n
+unfolding forbiddenLine
+forbidden-here n s i h e = rw (uncons s i h, eq-eqb _ _ e)
+
+pub forbidden-feed : (n : ℕ) (s : List ℕ) (i : ℕ) → i < length s → (classOf (getD s i 0) ≡ 10 → ⊥) → getD s i 0 ≡ 10 → forbiddenLine n (drop i s) ≡ forbiddenLine (n + 1) (drop (i + 1) s)
+unfolding forbiddenLine
+forbidden-feed n s i h e f = rw (uncons s i h, ne-eqb _ _ e, eq-eqb _ _ f)
+
+pub forbidden-next : (n : ℕ) (s : List ℕ) (i : ℕ) → i < length s → (classOf (getD s i 0) ≡ 10 → ⊥) → (getD s i 0 ≡ 10 → ⊥) → forbiddenLine n (drop i s) ≡ forbiddenLine n (drop (i + 1) s)
+unfolding forbiddenLine
+forbidden-next n s i h e f = rw (uncons s i h, ne-eqb _ _ e, ne-eqb _ _ f)
+
+pub forbidden-end : (n : ℕ) (s : List ℕ) (i : ℕ) → length s ≤ i → forbiddenLine n (drop i s) ≡ 0
+unfolding forbiddenLine
+forbidden-end n s i h = rw (done s i h)
+
+nonzero : (t : Bool) (x y : ℕ) → (x ≡ 0 → ⊥) → (y ≡ 0 → ⊥) → cond t x y ≡ 0 → ⊥
+nonzero true x y f g e = f e
+nonzero false x y f g e = g e
+
+and-both : (p q : Bool) → p && q ≡ true → (p ≡ true) × (q ≡ true)
+and-both true q e = (refl, e)
+and-both false q e = absurd (let z : _≡_ {A = ℕ} 0 1 = ap (λ (b : Bool). cond b 1 0) e in omega arith)
+
+-- a byte of class 0 is a digit
+pub class-digit : (b : ℕ) → classOf b ≡ 0 → (48 ≤ b) × (b ≤ 57)
+unfolding classOf
+class-digit b e = go (between 48 57 b) refl
+  where
+    go : (t : Bool) → between 48 57 b ≡ t → (48 ≤ b) × (b ≤ 57)
+    go true p = let q = and-both (leb 48 b) (leb b 57) p in (leb-true _ _ (q .0), leb-true _ _ (q .1))
+    go false p =
+        absurd (nonzero (eqb b 45) 1 _ (omega arith)
+        (nonzero (eqb b 44) 2 _ (omega arith)
+        (nonzero (eqb b 58) 3 _ (omega arith)
+        (nonzero (eqb b 61) 4 _ (omega arith)
+        (nonzero (eqb b 32) 5 _ (omega arith)
+        (nonzero (eqb b 10) 6 _ (omega arith)
+        (nonzero (between 97 122 b) 7 _ (omega arith)
+        (nonzero (between 65 90 b) 8 _ (omega arith)
+        (nonzero (between 32 126 b) 9 10 (omega arith) (omega arith)))))))))
+        (rw p at e))
+
+-- digits: a byte more, a byte that is none, the end, and a value that is past the limit already
+pub digits-next : (m a : ℕ) (s : List ℕ) (i : ℕ) → i < length s → classOf (getD s i 0) ≡ 0
+    → digitsTo m a (drop i s) ≡ digitsTo m (a * 10 + (getD s i 0 - 48)) (drop (i + 1) s)
+unfolding digitsTo digits
+digits-next m a s i h e = rw (uncons s i h, eq-eqb _ _ e)
+
+pub digits-bad : (m a : ℕ) (s : List ℕ) (i : ℕ) → i < length s → (classOf (getD s i 0) ≡ 0 → ⊥) → digitsTo m a (drop i s) ≡ bad 4
+unfolding digitsTo digits
+digits-bad m a s i h e = rw (uncons s i h, ne-eqb _ _ e)
+
+pub digits-end : (m a : ℕ) (s : List ℕ) (i : ℕ) → length s ≤ i → a ≤ m → digitsTo m a (drop i s) ≡ ok a
+unfolding digitsTo digits within
+digits-end m a s i h l = rw (done s i h, le-leb _ _ l)
+
+pub digits-past : (m a : ℕ) (s : List ℕ) → m < a → digitsTo m a s ≡ bad 4
+unfolding digitsTo digits within
+digits-past m a [] l = rw (lt-leb _ _ l)
+digits-past m a (b ∷ bs) l = go (eqb (classOf b) 0) (digits-past m (a * 10 + (b - 48)) bs (omega arith))
+  where
+    go : (t : Bool) → digitsTo m (a * 10 + (b - 48)) bs ≡ bad 4 → (cond t (digits (a * 10 + (b - 48)) bs) (bad 4) >>= within m) ≡ bad 4
+    go true r = r
+    go false r = refl
+
+pub up-to-empty : (m : ℕ) (s : List ℕ) → length s ≡ 0 → upTo m s ≡ bad 4
+unfolding upTo natural
+up-to-empty m [] e = refl
+up-to-empty m (b ∷ s) e = absurd (omega arith)
+
+pub up-to-one : (m : ℕ) (s : List ℕ) → length s ≡ 1 → upTo m s ≡ digitsTo m 0 s
+unfolding digitsTo upTo digits natural
+up-to-one m [] e = absurd (omega arith)
+up-to-one m (b ∷ []) e = refl
+up-to-one m (b ∷ d ∷ s) e = absurd (omega arith)
+
+pub up-to-zero : (m : ℕ) (s : List ℕ) → (length s ≡ 0 → ⊥) → (length s ≡ 1 → ⊥) → getD s 0 0 ≡ 48 → upTo m s ≡ bad 4
+unfolding upTo natural
+up-to-zero m [] e f h = absurd (e refl)
+up-to-zero m (b ∷ []) e f h = absurd (f refl)
+up-to-zero m (b ∷ d ∷ s) e f h = rw (eq-eqb _ _ h)
+
+pub up-to-more : (m : ℕ) (s : List ℕ) → (length s ≡ 0 → ⊥) → (length s ≡ 1 → ⊥) → (getD s 0 0 ≡ 48 → ⊥) → upTo m s ≡ digitsTo m 0 s
+unfolding upTo digitsTo natural digits
+up-to-more m [] e f h = absurd (e refl)
+up-to-more m (b ∷ []) e f h = absurd (f refl)
+up-to-more m (b ∷ d ∷ s) e f h = rw (ne-eqb _ _ h)
+
+pub number-empty : (s : List ℕ) → length s ≡ 0 → number s ≡ bad 4
+unfolding number
+number-empty [] e = refl
+number-empty (b ∷ s) e = absurd (omega arith)
+
+pub number-minus : (s : List ℕ) → (length s ≡ 0 → ⊥) → getD s 0 0 ≡ 45 → number s ≡ negative (drop 1 s)
+unfolding number negative
+number-minus [] e h = absurd (e refl)
+number-minus (b ∷ s) e h = rw (eq-eqb _ _ h)
+
+pub number-plain : (s : List ℕ) → (length s ≡ 0 → ⊥) → (getD s 0 0 ≡ 45 → ⊥) → number s ≡ positive s
+unfolding number positive
+number-plain [] e h = absurd (e refl)
+number-plain (b ∷ s) e h = rw (ne-eqb _ _ h)
+
+ok-inj : (A : Type 0) (a b : A) → _≡_ {A = Parsed A} (ok a) (ok b) → a ≡ b
+ok-inj A a b e = cc
+
+within-ok : (m k n : ℕ) → within m k ≡ ok n → n ≤ m
+unfolding within
+within-ok m k n e = go (leb k m) refl e
+  where
+    go : (t : Bool) → leb k m ≡ t → (need t 4 >> ok k) ≡ ok n → n ≤ m
+    go true p q = let l = leb-true k m p in let r : k ≡ n = cc in omega arith
+    go false p q = absurd (let z : _≡_ {A = ℕ} 0 1 = cc in omega arith)
+
+bound-ok : (m n : ℕ) (p : Parsed ℕ) → (p >>= within m) ≡ ok n → n ≤ m
+bound-ok m n (ok k) e = within-ok m k n e
+bound-ok m n (bad r) e = absurd (let z : _≡_ {A = ℕ} 0 1 = cc in omega arith)
+
+-- what was read is within the limit
+pub up-to-bound : (m n : ℕ) (s : List ℕ) → upTo m s ≡ ok n → n ≤ m
+unfolding natural upTo
+up-to-bound m n s e = bound-ok m n (natural s) e
+
+pub negative-bad : (s : List ℕ) → upTo 2147483648 s ≡ bad 4 → negative s ≡ bad 4
+unfolding negative fromOne
+negative-bad s e = rw e
+
+pub negative-zero : (s : List ℕ) (n : ℕ) → upTo 2147483648 s ≡ ok n → n ≡ 0 → negative s ≡ bad 4
+unfolding negative fromOne
+negative-zero s n e z = rw (e, z)
+
+pub negative-ok : (s : List ℕ) (n : ℕ) → upTo 2147483648 s ≡ ok n → 1 ≤ n → negative s ≡ ok (negsuc (pred n))
+unfolding negative fromOne
+negative-ok s n e z = rw (e, le-leb _ _ z)
+
+pub positive-bad : (s : List ℕ) → upTo 2147483647 s ≡ bad 4 → positive s ≡ bad 4
+unfolding positive
+positive-bad s e = rw e
+
+pub positive-ok : (s : List ℕ) (n : ℕ) → upTo 2147483647 s ≡ ok n → positive s ≡ ok (pos n)
+unfolding positive
+positive-ok s n e = rw e
+
+-- a part of a slice from a to its end
+pub rest : (s : List ℕ) (a : ℕ) → take (length s - a) (drop a s) ≡ drop a s
+rest s a = take-all (length s - a) (drop a s) (simp length-drop (omega arith))
+
+-- how many c there are
+pub count-here : (c : ℕ) (s : List ℕ) (i : ℕ) → i < length s → getD s i 0 ≡ c → count c (drop i s) ≡ suc (count c (drop (i + 1) s))
+unfolding count
+count-here c s i h e = rw (uncons s i h, eq-eqb _ _ e)
+
+pub count-next : (c : ℕ) (s : List ℕ) (i : ℕ) → i < length s → (getD s i 0 ≡ c → ⊥) → count c (drop i s) ≡ count c (drop (i + 1) s)
+unfolding count
+count-next c s i h n = rw (uncons s i h, ne-eqb _ _ n)
+
+pub count-end : (c : ℕ) (s : List ℕ) (i : ℕ) → length s ≤ i → count c (drop i s) ≡ 0
+unfolding count
+count-end c s i h = rw (done s i h)
+
+-- the last byte
+pub closed-empty : (s : List ℕ) → length s ≡ 0 → closed s ≡ false
+unfolding closed
+closed-empty [] e = refl
+closed-empty (b ∷ s) e = absurd (omega arith)
+
+pub closed-last : (s : List ℕ) → 1 ≤ length s → closed s ≡ eqb (getD s (length s - 1) 0) 10
+unfolding closed
+closed-last [] h = absurd (omega arith)
+closed-last (b ∷ []) h = refl
+closed-last (b ∷ c ∷ s) h =
+    let e : suc (suc (length s)) - 1 ≡ suc (suc (length s) - 1) = omega arith in
+    closed-last (c ∷ s) (omega arith) ∙ ap (λ (n : ℕ). eqb (getD (b ∷ c ∷ s) n 0) 10) (sym e)
+
+-- a number from 1
+pub from-one-bad : (m : ℕ) (s : List ℕ) → upTo m s ≡ bad 4 → fromOne m s ≡ bad 4
+unfolding fromOne
+from-one-bad m s e = rw e
+
+pub from-one-zero : (m n : ℕ) (s : List ℕ) → upTo m s ≡ ok n → n ≡ 0 → fromOne m s ≡ bad 4
+unfolding fromOne
+from-one-zero m n s e z = rw (e, z)
+
+pub from-one-ok : (m n : ℕ) (s : List ℕ) → upTo m s ≡ ok n → 1 ≤ n → fromOne m s ≡ ok n
+unfolding fromOne
+from-one-ok m n s e z = rw (e, le-leb _ _ z)
+
+-- what a text starts with, byte by byte
+module _ (p t : List ℕ) (i : ℕ) where
+  pub starts-end : length p ≤ i → starts (drop i p) (drop i t) ≡ true
+  unfolding starts
+  starts-end h = rw (done p i h)
+
+  module _ (h : i < length p) (l : i < length t) where
+    pub starts-next : getD t i 0 ≡ getD p i 0 → starts (drop i p) (drop i t) ≡ starts (drop (i + 1) p) (drop (i + 1) t)
+    unfolding starts
+    starts-next e = rw (uncons p i h, uncons t i l, eq-eqb _ _ e)
+
+    pub starts-differ : (getD t i 0 ≡ getD p i 0 → ⊥) → starts (drop i p) (drop i t) ≡ false
+    unfolding starts
+    starts-differ e = rw (uncons p i h, uncons t i l, ne-eqb _ _ e)
+
+wrong : true ≡ false → ⊥
+wrong e = let z : _≡_ {A = ℕ} 0 1 = cc in omega arith
+
+pub starts-length : (p t : List ℕ) → starts p t ≡ true → length p ≤ length t
+unfolding starts
+starts-length [] t h = omega arith
+starts-length (x ∷ xs) [] h = absurd (wrong (sym h))
+starts-length (x ∷ xs) (b ∷ bs) h = go (eqb b x) (λ g. starts-length xs bs g) h
+  where
+    go : (y : Bool) → (starts xs bs ≡ true → length xs ≤ length bs) → cond y (starts xs bs) false ≡ true → suc (length xs) ≤ suc (length bs)
+    go true i e = let j = i e in omega arith
+    go false i e = absurd (wrong (sym e))
+
+pub starts-short : (p t : List ℕ) → length t < length p → starts p t ≡ false
+starts-short p t h = go (starts p t) refl
+  where
+    go : (y : Bool) → starts p t ≡ y → y ≡ false
+    go true e = absurd (let l = starts-length p t e in omega arith)
+    go false e = refl

@@ -1,0 +1,210 @@
+// Bytes and numbers of a sheet.
+//
+// A table that is indexed inside a loop would be built again at every turn of it, so the two loops that look classes up take the table into a local first.
+mod classes;
+
+use classes::CLASSES;
+ghost use mathlib.Core.Path.{_≡_};
+ghost use Prim.Native.Nat.{_<_};
+ghost use Rattle.model.specs.Bytes.{classOf, find, count};
+ghost use Rattle.model.specs.Number.{digitsTo, upTo, fromOne, negative, positive, number};
+ghost use Rattle.model.specs.Reading.{forbiddenLine, closed};
+ghost use Rattle.text.specs.Meaning.{naturalAs, wholeAs};
+ghost use Rattle.text.specs.Prefix.{starts};
+
+// A number from 0 to a limit, or none.
+pub enum Natural {
+    Upto(u64),
+    Unfit,
+}
+
+// A number of the full range, or none.
+pub enum Whole {
+    Value(i32),
+    Malformed,
+}
+
+pub fn class_of(b: u8) -> u8
+    ensures { λ r. ⌜ r ≡ classOf b ⌝ }
+{
+    CLASSES[b as usize]
+}
+
+// The line of the first forbidden byte, or 0 where there is none.
+pub fn forbidden_line(s: &[u8]) -> usize
+    ensures { λ r. ⌜ r ≡ forbiddenLine 1 (now (s .entry)) ⌝ }
+{
+    let table = CLASSES;
+    let mut line: usize = 1;
+    let mut i = 0;
+    while i < s.len() {
+        let b = s[i];
+        let class = table[b as usize];
+        if class == 10 {
+            return line;
+        }
+        if b == 10 {
+            line += 1;
+        }
+        i += 1;
+    }
+    0
+}
+
+// The place of the first c, or the length where there is none.
+pub fn find_byte(s: &[u8], c: u8) -> usize
+    ensures { λ r. ⌜ r ≡ find c (now (s .entry)) ⌝ }
+{
+    let mut i = 0;
+    while i < s.len() {
+        if s[i] == c {
+            return i;
+        }
+        i += 1;
+    }
+    i
+}
+
+// How many c there are.
+pub fn count_byte(s: &[u8], c: u8) -> usize
+    ensures { λ r. ⌜ r ≡ count c (now (s .entry)) ⌝ }
+{
+    let mut n: usize = 0;
+    let mut i = 0;
+    while i < s.len() {
+        if s[i] == c {
+            n += 1;
+        }
+        i += 1;
+    }
+    n
+}
+
+// Whether the last byte is a line feed.
+pub fn is_closed(s: &[u8]) -> bool
+    ensures { λ r. ⌜ r ≡ closed (now (s .entry)) ⌝ }
+{
+    let n = s.len();
+    if n == 0 {
+        return false;
+    }
+    s[n - 1] == 10
+}
+
+pub fn starts_with(t: &[u8], p: &[u8]) -> bool
+    ensures { λ r. ⌜ r ≡ starts (now (p .entry)) (now (t .entry)) ⌝ }
+{
+    if t.len() < p.len() {
+        return false;
+    }
+    let mut i = 0;
+    while i < p.len() {
+        if t[i] != p[i] {
+            return false;
+        }
+        i += 1;
+    }
+    true
+}
+
+fn wide(x: u8) -> u64
+    ensures { λ r. ⌜ r ≡ x ⌝ }
+{
+    x as u64
+}
+
+// The value of digits, at most m. It stops at the first digit that takes it past m, so that no length of text overflows.
+fn digits_up_to(s: &[u8], m: u64) -> Natural
+    requires { ⌜ m < 4294967296 ⌝ }
+    ensures { λ r. ⌜ naturalAs r ≡ digitsTo m 0 (now (s .entry)) ⌝ }
+{
+    let table = CLASSES;
+    let mut a: u64 = 0;
+    let mut i = 0;
+    while i < s.len() {
+        let b = s[i];
+        let class = table[b as usize];
+        if class != 0 {
+            return Natural::Unfit;
+        }
+        a = a * 10 + wide(b - 48);
+        if m < a {
+            return Natural::Unfit;
+        }
+        i += 1;
+    }
+    Natural::Upto(a)
+}
+
+// A number from 0 to m.
+pub fn up_to(s: &[u8], m: u64) -> Natural
+    requires { ⌜ m < 4294967296 ⌝ }
+    ensures { λ r. ⌜ naturalAs r ≡ upTo m (now (s .entry)) ⌝ }
+{
+    if s.len() == 0 {
+        return Natural::Unfit;
+    }
+    if s.len() == 1 {
+        return digits_up_to(s, m);
+    }
+    if s[0] == 48 {
+        return Natural::Unfit;
+    }
+    digits_up_to(s, m)
+}
+
+// A number from 1 to m.
+pub fn from_one(s: &[u8], m: u64) -> Natural
+    requires { ⌜ m < 4294967296 ⌝ }
+    ensures { λ r. ⌜ naturalAs r ≡ fromOne m (now (s .entry)) ⌝ }
+{
+    match up_to(s, m) {
+        Natural::Upto(n) => {
+            if n == 0 {
+                Natural::Unfit
+            } else {
+                Natural::Upto(n)
+            }
+        }
+        Natural::Unfit => Natural::Unfit,
+    }
+}
+
+// What follows a minus sign.
+fn negative_of(s: &[u8]) -> Whole
+    ensures { λ r. ⌜ wholeAs r ≡ negative (now (s .entry)) ⌝ }
+{
+    match up_to(s, 2147483648) {
+        Natural::Upto(n) => {
+            if n == 0 {
+                Whole::Malformed
+            } else {
+                let z = n as i64;
+                Whole::Value((0 - z) as i32)
+            }
+        }
+        Natural::Unfit => Whole::Malformed,
+    }
+}
+
+fn positive_of(s: &[u8]) -> Whole
+    ensures { λ r. ⌜ wholeAs r ≡ positive (now (s .entry)) ⌝ }
+{
+    match up_to(s, 2147483647) {
+        Natural::Upto(n) => Whole::Value(n as i32),
+        Natural::Unfit => Whole::Malformed,
+    }
+}
+
+// A number of the full range.
+pub fn number_of(s: &[u8]) -> Whole
+    ensures { λ r. ⌜ wholeAs r ≡ number (now (s .entry)) ⌝ }
+{
+    if s.len() == 0 {
+        return Whole::Malformed;
+    }
+    if s[0] == 45 {
+        return negative_of(&s[1..]);
+    }
+    positive_of(s)
+}
