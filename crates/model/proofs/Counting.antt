@@ -9,7 +9,7 @@ use native.Mathlib.Omega.{arith}
 use native.Mathlib.Nat.{zero-add}
 use Rattle.model.specs.Execution.{callOf}
 use Rattle.model.specs.Job.{Job}
-use Rattle.model.specs.Run.{Sent, Common, State, Outcome, command, stopped, at, put, process, takes, receive, columns, send, share, counted, lead, follow, turn, lineLength, written, short, allUsed, noRoom, verdict, ended, settle, run, initial, runJob}
+use Rattle.model.specs.Run.{Sent, Common, State, Outcome, command, stopped, at, put, process, takes, receive, columns, send, share, counted, lead, follow, turn, lineLength, written, short, allUsed, noRoom, verdictBy, verdict, ended, settle, run, initial, runJob}
 use Rattle.model.specs.Counts.{lows, Counted}
 use Rattle.model.specs.declared.Entry.{Entry}
 use Rattle.model.specs.declared.Command.{Command}
@@ -86,7 +86,7 @@ module _ (ks : List Key) (room all : ℕ) where
 
     -- where the verdict is to go on, there is room
     settle-from : (a b c : Bool) (s : State) (ls : List Level) (x : Outcome) → Sound ks room all s → (c ≡ false → From ks room all s ls x)
-        → From ks room all s ls (settle ks (cond a (Ends Stopped) (cond b (Ends LettersUsed) (cond c (Ends NoRoom) GoesOn))) s x)
+        → From ks room all s ls (settle ks (verdictBy a b c) s x)
     settle-from true b c s ls x h f = ended-from Stopped s ls h
     settle-from false true c s ls x h f = ended-from LettersUsed s ls h
     settle-from false false true s ls x h f = ended-from NoRoom s ls h

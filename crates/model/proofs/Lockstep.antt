@@ -9,7 +9,7 @@ use lib.Seq.{getD-drop}
 use lib.Dec.{ltb}
 use native.Mathlib.Numerals.{one-add}
 use Rattle.model.specs.Execution.{callOf}
-use Rattle.model.specs.Run.{Process, Processes, Sent, Common, State, Outcome, entry, refill, step, command, stopped, at, put, each, process, withProcess, shown, source, fill, takes, received, receive, columns, send, share, counted, lead, waits, followed, follow, turn, lineLength, written, short, allUsed, noRoom, verdict, ended, settle, run, initial}
+use Rattle.model.specs.Run.{Process, Processes, Sent, Common, State, Outcome, entry, refill, step, command, stopped, at, put, each, process, withProcess, shown, source, fill, takes, received, receive, columns, send, share, counted, lead, waits, followed, follow, turn, lineLength, written, short, allUsed, noRoom, verdictBy, verdict, ended, settle, run, initial}
 use Rattle.model.specs.declared.Entry.{Entry}
 use Rattle.model.specs.declared.Entry.the-variants.{Absent, Number}
 use Rattle.model.specs.declared.Command.{Command}
@@ -20,7 +20,7 @@ use Rattle.model.specs.declared.Level.the-variants.{Low, High}
 use Rattle.model.specs.declared.Key.{Key}
 use Rattle.model.specs.declared.Key.the-variants.{Open, Secret}
 use Rattle.model.specs.declared.Ending.{Ending}
-use Rattle.model.specs.declared.Ending.the-variants.{Stopped, LettersUsed, NoRoom}
+use Rattle.model.specs.declared.Ending.the-variants.{LettersUsed}
 use Rattle.model.specs.declared.Verdict.{Verdict}
 use Rattle.model.specs.declared.Verdict.the-variants.{GoesOn, Ends}
 use Rattle.model.specs.declared.Counts.{Counts}
@@ -203,7 +203,7 @@ module _ (o : Level) (hid : Low ≢ o) (ks : List Key) where
     verdict-alike : (room : ℕ) (ls : List Level) (s t : State) → Like o ks s t → verdict ks cs room ls s ≡ verdict ks cs room ls t
     unfolding verdict
     verdict-alike room ls s t h =
-        ap₂ (λ (a b : Bool). cond a (Ends Stopped) (cond (allUsed ls) (Ends LettersUsed) (cond b (Ends NoRoom) GoesOn)))
+        ap₂ (λ (a b : Bool). verdictBy a (allUsed ls) b)
         (ap (stopped cs) (h .processes Low hid))
         (no-room-alike room ls s t h)
 

@@ -29,6 +29,10 @@ presence (Number n) = pos 1
 abbrev pub variable : Execution → ℕ → ℤ
 variable x v = getD (x .vars) v (pos 0)
 
+-- the next record: a variable has a value, and the execution is at a place, with so many calls made
+abbrev pub afterOf : Execution → ℕ → ℤ → ℕ → ℕ → Execution
+afterOf x v z p n = record { place = p; vars = set (x .vars) v z; calls = n }
+
 -- the four ways of a command: to go to a place, to change a variable, to change the entry, to call. All but the first go to the next place.
 abbrev pub goes : ℕ → Execution → Entry → Stepped
 goes t x e = record { execution = record { place = t; vars = x .vars; calls = x .calls }; entry = e }

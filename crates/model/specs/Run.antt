@@ -212,14 +212,13 @@ noRoom ks cs room [] s = false
 noRoom ks cs room (Low ∷ ls) s = short ks room (callOf (command cs (process Low s) .op)) s
 noRoom ks cs room (High ∷ ls) s = false
 
--- The table of endings, "Before each turn", "tested in that order": 0 "the low execution has stopped"; 31 "it has not, and all letters are used"; 32.
--- The letters are those that are left.
+-- The table of endings, "Before each turn", "tested in that order": 0 "the low execution has stopped"; 31 "it has not, and all letters are used"; 32
+abbrev pub verdictBy : Bool → Bool → Bool → Verdict
+verdictBy atEnd used full = cond atEnd (Ends Stopped) (cond used (Ends LettersUsed) (cond full (Ends NoRoom) GoesOn))
+
+-- the letters are those that are left
 unfoldable pub verdict : List Key → List Command → ℕ → List Level → State → Verdict
-verdict ks cs room ls s =
-    cond (stopped cs (process Low s)) (Ends Stopped)
-    (cond (allUsed ls) (Ends LettersUsed)
-    (cond (noRoom ks cs room ls s) (Ends NoRoom)
-    GoesOn))
+verdict ks cs room ls s = verdictBy (stopped cs (process Low s)) (allUsed ls) (noRoom ks cs room ls s)
 
 -- ---- The whole run
 

@@ -1,4 +1,7 @@
 // The plain data of the confidential run. What it means is in specs/.
+ghost use mathlib.Core.Path.{_≡_};
+ghost use Prim.Native.Nat.{_<_};
+ghost use Rattle.model.specs.Execution.{afterOf};
 
 // What the arrays hold at the most. The limits of a sheet stand apart from these, in specs/Limits.antt.
 pub const KEY_CAPACITY: usize = 8;
@@ -83,6 +86,19 @@ pub struct Execution {
     pub place: usize,
     pub vars: [i32; 8],
     pub calls: usize,
+}
+
+impl Execution {
+    // The next record: the variable v has the value, the execution goes on at the place, and has made so many calls.
+    pub fn after(mut self, v: usize, value: i32, place: usize, calls: usize) -> Execution
+        requires { ⌜ v < 8 ⌝ }
+        ensures { λ r. ⌜ r ≡ afterOf self v value place calls ⌝ }
+    {
+        self.vars[v] = value;
+        self.place = place;
+        self.calls = calls;
+        self
+    }
 }
 
 // What a command leaves: the next record of its execution, and the entry at its key.

@@ -1,0 +1,350 @@
+//! Random sheets from a seed.
+//!
+//! The same seed gives the same sheets on every machine. Accepted sheets are made as a [`Job`] and
+//! then written out by [`sheet_of`]; damaged ones begin as accepted ones.
+
+mod damage;
+mod programs;
+
+use crate::model::{
+    read, run, Command, Job, Level, LENT, MOST_COMMANDS, MOST_KEYS, MOST_MESSAGES, MOST_TURNS,
+};
+
+/// A small generator of pseudo-random numbers (splitmix64).
+#[derive(Debug, Clone)]
+pub struct Rng {
+    state: u64,
+}
+
+impl Rng {
+    pub fn new(seed: u64) -> Rng {
+        Rng { state: seed }
+    }
+
+    pub fn draw(&mut self) -> u64 {
+        self.state = self.state.wrapping_add(0x9e37_79b9_7f4a_7c15);
+        let mut mixed = self.state;
+        mixed = (mixed ^ (mixed >> 30)).wrapping_mul(0xbf58_476d_1ce4_e5b9);
+        mixed = (mixed ^ (mixed >> 27)).wrapping_mul(0x94d0_49bb_1331_11eb);
+        mixed ^ (mixed >> 31)
+    }
+
+    /// A number from 0 to `count` - 1. `count` must not be 0.
+    pub fn below(&mut self, count: usize) -> usize {
+        (self.draw() % count as u64) as usize
+    }
+
+    /// A number from `lowest` to `highest`, both included.
+    pub fn between(&mut self, lowest: usize, highest: usize) -> usize {
+        lowest + self.below(highest - lowest + 1)
+    }
+
+    /// True in `part` cases out of `whole`.
+    pub fn chance(&mut self, part: usize, whole: usize) -> bool {
+        self.below(whole) < part
+    }
+
+    /// One of a list that is not empty.
+    pub fn pick<T: Copy>(&mut self, list: &[T]) -> T {
+        list[self.below(list.len())]
+    }
+}
+
+/// How large an accepted sheet is to be.
+#[derive(Debug, Clone, Copy, PartialEq, Eq)]
+pub enum Shape {
+    /// A few lines.
+    Small,
+    /// Some dozens of lines.
+    Medium,
+    /// Near the limits, which are often reached.
+    Large,
+    /// An endless loop with 1,024 letters: a run in 32,768 bytes uses all of them.
+    LongRun,
+}
+
+impl Shape {
+    pub const ALL: [Shape; 4] = [Shape::Small, Shape::Medium, Shape::Large, Shape::LongRun];
+}
+
+/// A random sheet that the model accepts.
+pub fn accepted(rng: &mut Rng, shape: Shape) -> Vec<u8> {
+    sheet_of(&accepted_job(rng, shape))
+}
+
+/// An accepted sheet with one or two faults, so that every refusal occurs often. A few of the
+/// changes do no harm (a target that equals the count of commands, say).
+pub fn damaged(rng: &mut Rng) -> Vec<u8> {
+    let shape = rng.pick(&[Shape::Small, Shape::Small, Shape::Medium]);
+    let mut sheet = accepted(rng, shape);
+    for _ in 0..rng.between(1, 2) {
+        sheet = damage::damage(rng, &sheet);
+    }
+    sheet
+}
+
+/// Bytes that are no work of a generator of sheets: random bytes, random text of the format's
+/// alphabet, or random lines.
+pub fn noise(rng: &mut Rng) -> Vec<u8> {
+    match rng.below(4) {
+        0 => {
+            let count = rng.below(200);
+            (0..count).map(|_| rng.draw() as u8).collect()
+        }
+        1 => {
+            let count = rng.below(200);
+            let mut text: Vec<u8> = (0..count).map(|_| damage::letter(rng)).collect();
+            text.push(b'\n');
+            text
+        }
+        _ => damage::random_lines(rng),
+    }
+}
+
+/// Two accepted sheets that differ in secret entries of their message lines, by value or by
+/// presence, and in nothing else.
+pub fn secret_pair(rng: &mut Rng) -> (Vec<u8>, Vec<u8>) {
+    let shape = rng.pick(&Shape::ALL);
+    let mut first = accepted_job(rng, shape);
+    if first.secrets.iter().all(Option::is_none) {
+        let key = rng.below(first.keys);
+        first.secrets[key] = Some(value(rng));
+    }
+    if first.messages.is_empty() {
+        first.messages.push(vec![None; first.keys]);
+    }
+    let mut second = first.clone();
+    for line in &mut second.messages {
+        for (entry, secret) in line.iter_mut().zip(&first.secrets) {
+            if secret.is_some() && rng.chance(3, 4) {
+                *entry = maybe(rng, 3, 4);
+            }
+        }
+    }
+    if first == second {
+        make_different(rng, &mut second);
+    }
+    (sheet_of(&first), sheet_of(&second))
+}
+
+/// Turns one secret entry of the first message line from present to absent, or back.
+fn make_different(rng: &mut Rng, job: &mut Job) {
+    let secret = job.secrets.iter().position(Option::is_some);
+    if let (Some(key), Some(line)) = (secret, job.messages.first_mut()) {
+        line[key] = match line[key] {
+            Some(_) => None,
+            None => Some(value(rng)),
+        };
+    }
+}
+
+/// A length for the output memory: none, one byte short of some lines, exactly some lines, somewhat
+/// more, or long enough for the whole run.
+pub fn memory_length(rng: &mut Rng, sheet: &[u8]) -> usize {
+    let (width, lines) = match read(sheet) {
+        Ok(job) => {
+            let width = job.line_length();
+            let mut long = vec![0; width * MOST_TURNS];
+            (width, run(&job, &mut long)[4] as usize / width)
+        }
+        Err(_) => (10 + 12 * rng.between(1, MOST_KEYS), rng.below(4)),
+    };
+    // Few lines more often than many, and at times one more than the run sends.
+    let most = rng.pick(&[1, 2, 3, lines, lines, lines + 1]);
+    let lines = rng.between(1, most.clamp(1, lines + 1));
+    match rng.below(10) {
+        0 => 0,
+        1 | 2 => lines * width - 1,
+        3 | 4 => lines * width,
+        5 => lines * width + rng.below(width),
+        6 => width * MOST_TURNS,
+        _ => LENT,
+    }
+}
+
+/// A random job of the given shape.
+pub fn accepted_job(rng: &mut Rng, shape: Shape) -> Job {
+    let size = Size::of(rng, shape);
+    let secrets: Vec<Option<i32>> = (0..size.keys).map(|_| maybe(rng, 1, 2)).collect();
+    let commands = match shape {
+        Shape::LongRun => programs::endless(rng, &secrets),
+        _ => programs::mixed(rng, &secrets, size.commands),
+    };
+    let messages = (0..size.messages)
+        .map(|_| message(rng, size.keys))
+        .collect();
+    let turns = turns(rng, size.turns);
+    Job {
+        keys: size.keys,
+        secrets,
+        commands,
+        messages,
+        turns,
+    }
+}
+
+/// The counts of a sheet.
+struct Size {
+    keys: usize,
+    commands: usize,
+    messages: usize,
+    turns: usize,
+}
+
+impl Size {
+    fn of(rng: &mut Rng, shape: Shape) -> Size {
+        match shape {
+            Shape::Small => Size {
+                keys: rng.between(1, 2),
+                commands: rng.between(1, 9),
+                messages: rng.below(4),
+                turns: rng.between(1, 36),
+            },
+            Shape::Medium => Size {
+                keys: rng.between(1, 5),
+                commands: rng.between(4, 24),
+                messages: rng.below(9),
+                turns: rng.between(8, 160),
+            },
+            Shape::Large => Size {
+                keys: up_to(rng, 6, MOST_KEYS),
+                commands: up_to(rng, 48, MOST_COMMANDS),
+                messages: up_to(rng, 24, MOST_MESSAGES),
+                turns: up_to(rng, 700, MOST_TURNS),
+            },
+            Shape::LongRun => Size {
+                keys: rng.between(1, MOST_KEYS),
+                commands: MOST_COMMANDS,
+                messages: rng.between(0, MOST_MESSAGES),
+                turns: MOST_TURNS,
+            },
+        }
+    }
+}
+
+/// The limit itself in half of the cases, else something from `lowest` on.
+fn up_to(rng: &mut Rng, lowest: usize, limit: usize) -> usize {
+    if rng.chance(1, 2) {
+        limit
+    } else {
+        rng.between(lowest, limit)
+    }
+}
+
+/// A value: small, extreme, near a place where products leave the range, or anything.
+fn value(rng: &mut Rng) -> i32 {
+    const EXTREME: [i32; 12] = [
+        i32::MIN,
+        i32::MIN + 1,
+        i32::MIN / 2,
+        -65_536,
+        -46_341,
+        -46_340,
+        46_340,
+        46_341,
+        65_536,
+        i32::MAX / 2,
+        i32::MAX - 1,
+        i32::MAX,
+    ];
+    match rng.below(6) {
+        0 => 0,
+        1 | 2 => rng.below(21) as i32 - 10,
+        3 => rng.below(200_001) as i32 - 100_000,
+        4 => rng.pick(&EXTREME),
+        _ => rng.draw() as i32,
+    }
+}
+
+/// A value in `part` cases out of `whole`.
+fn maybe(rng: &mut Rng, part: usize, whole: usize) -> Option<i32> {
+    rng.chance(part, whole).then(|| value(rng))
+}
+
+fn message(rng: &mut Rng, keys: usize) -> Vec<Option<i32>> {
+    if rng.chance(1, 10) {
+        return vec![None; keys];
+    }
+    (0..keys).map(|_| maybe(rng, 3, 4)).collect()
+}
+
+/// Letters in one of several mixes.
+fn turns(rng: &mut Rng, count: usize) -> Vec<Level> {
+    let letter = |low: bool| if low { Level::Low } else { Level::High };
+    match rng.below(20) {
+        0..=4 => (0..count).map(|place| letter(place % 2 == 0)).collect(),
+        5 | 6 => (0..count).map(|place| letter(place % 2 == 1)).collect(),
+        7..=10 => (0..count).map(|_| letter(rng.chance(1, 2))).collect(),
+        11 | 12 => (0..count).map(|_| letter(rng.chance(4, 5))).collect(),
+        13..=15 => (0..count).map(|_| letter(rng.chance(1, 4))).collect(),
+        16 => vec![Level::Low; count],
+        17 if rng.chance(1, 2) => vec![Level::High; count],
+        _ => bursts(rng, count),
+    }
+}
+
+/// Several turns of one execution, then several of the other.
+fn bursts(rng: &mut Rng, count: usize) -> Vec<Level> {
+    let mut turns = Vec::new();
+    let mut level = rng.pick(&[Level::Low, Level::High]);
+    while turns.len() < count {
+        let length = rng.between(1, 9).min(count - turns.len());
+        turns.extend(vec![level; length]);
+        level = match level {
+            Level::Low => Level::High,
+            Level::High => Level::Low,
+        };
+    }
+    turns
+}
+
+/// Writes a job out as a sheet.
+pub fn sheet_of(job: &Job) -> Vec<u8> {
+    let mut sheet = format!("sheet=1\nkeys={}\n", job.keys);
+    for (key, dummy) in job.secrets.iter().enumerate() {
+        if let Some(dummy) = dummy {
+            sheet.push_str(&format!("secret={key}:{dummy}\n"));
+        }
+    }
+    for &command in &job.commands {
+        sheet.push_str(&format!("do={}\n", words(command)));
+    }
+    for message in &job.messages {
+        sheet.push_str(&format!("msg={}\n", entries(message)));
+    }
+    let letter = |level: &Level| match level {
+        Level::Low => 'L',
+        Level::High => 'H',
+    };
+    sheet.push_str("turns=");
+    sheet.extend(job.turns.iter().map(letter));
+    sheet.push('\n');
+    sheet.into_bytes()
+}
+
+fn entries(message: &[Option<i32>]) -> String {
+    let part = |(key, entry): (usize, &Option<i32>)| entry.map(|value| format!("{key}:{value}"));
+    let parts: Vec<String> = message.iter().enumerate().filter_map(part).collect();
+    parts.join(",")
+}
+
+/// The words of a command.
+fn words(command: Command) -> String {
+    match command {
+        Command::Set(v, n) => format!("set {v} {n}"),
+        Command::Add(v, w) => format!("add {v} {w}"),
+        Command::Sub(v, w) => format!("sub {v} {w}"),
+        Command::Mul(v, w) => format!("mul {v} {w}"),
+        Command::Div(v, w) => format!("div {v} {w}"),
+        Command::Read(v, k) => format!("read {v} {k}"),
+        Command::Has(v, k) => format!("has {v} {k}"),
+        Command::Put(k, v) => format!("put {k} {v}"),
+        Command::Drop(k) => format!("drop {k}"),
+        Command::IfNeg(v, t) => format!("ifneg {v} {t}"),
+        Command::IfZero(v, t) => format!("ifzero {v} {t}"),
+        Command::Jump(t) => format!("jump {t}"),
+        Command::Receive => "receive".to_string(),
+        Command::Send => "send".to_string(),
+        Command::Stop => "stop".to_string(),
+    }
+}

@@ -1,0 +1,301 @@
+//! Random lists of commands, put together from short passages that do something together.
+
+use super::{value, Rng};
+use crate::model::{Command, MOST_COMMANDS, VARIABLES};
+
+/// A target that stands for the end until the count of commands is known.
+const END: usize = usize::MAX;
+
+/// Pairs whose sum, difference, product or quotient leaves the range, or nearly does, or is cut.
+const NEAR_THE_ENDS: [(i32, i32); 12] = [
+    (i32::MIN, -1),
+    (i32::MIN, 1),
+    (i32::MIN, i32::MAX),
+    (i32::MAX, i32::MIN),
+    (i32::MAX, 1),
+    (i32::MAX, -1),
+    (-2, i32::MAX),
+    (-1, i32::MIN),
+    (65_536, 32_768),
+    (65_536, -32_768),
+    (-7, 2),
+    (7, 0),
+];
+
+/// Exactly `count` commands of every kind, with loops and jumps; most of them come to an end.
+pub fn mixed(rng: &mut Rng, secrets: &[Option<i32>], count: usize) -> Vec<Command> {
+    let mut writer = Writer::new(rng, secrets);
+    while writer.commands.len() < count {
+        writer.passage();
+    }
+    writer.commands.truncate(count);
+    let last = match writer.rng.below(10) {
+        0..=2 => Some(Command::Stop),
+        3 => Some(Command::Jump(END)),
+        4 => Some(Command::Jump(0)),
+        5 | 6 => Some(Command::Send),
+        _ => None,
+    };
+    if let Some(last) = last {
+        writer.commands[count - 1] = last;
+    }
+    writer.finish()
+}
+
+/// A loop without a way out. A round takes at least five low steps and sends at most once, so that
+/// 1,024 letters never fill 32,768 bytes.
+pub fn endless(rng: &mut Rng, secrets: &[Option<i32>]) -> Vec<Command> {
+    let mut writer = Writer::new(rng, secrets);
+    for _ in 0..writer.rng.below(4) {
+        writer.plain();
+    }
+    let start = writer.here();
+    for _ in 0..4 {
+        writer.plain();
+    }
+    for _ in 0..writer.rng.below(8) {
+        match writer.rng.below(4) {
+            0 => writer.add(Command::Receive),
+            1 => writer.plain(),
+            2 => writer.calculate(),
+            _ => writer.fork(),
+        }
+    }
+    if writer.rng.chance(7, 8) {
+        writer.add(Command::Send);
+    }
+    writer.add(Command::Jump(start));
+    writer.finish()
+}
+
+/// Commands as they are put together.
+struct Writer<'a> {
+    rng: &'a mut Rng,
+    secrets: &'a [Option<i32>],
+    commands: Vec<Command>,
+}
+
+impl<'a> Writer<'a> {
+    fn new(rng: &'a mut Rng, secrets: &'a [Option<i32>]) -> Writer<'a> {
+        Writer {
+            rng,
+            secrets,
+            commands: Vec::new(),
+        }
+    }
+
+    fn add(&mut self, command: Command) {
+        self.commands.push(command);
+    }
+
+    /// The place of the next command.
+    fn here(&self) -> usize {
+        self.commands.len()
+    }
+
+    /// Gives the command at `place` the target `target`, if it has one.
+    fn aim(&mut self, place: usize, target: usize) {
+        let aimed = match self.commands[place] {
+            Command::IfNeg(v, _) => Command::IfNeg(v, target),
+            Command::IfZero(v, _) => Command::IfZero(v, target),
+            Command::Jump(_) => Command::Jump(target),
+            other => other,
+        };
+        self.commands[place] = aimed;
+    }
+
+    /// The commands, with every target brought into their range.
+    fn finish(mut self) -> Vec<Command> {
+        let count = self.commands.len();
+        for place in 0..count {
+            if let Some(target) = self.commands[place].target() {
+                self.aim(place, target.min(count));
+            }
+        }
+        self.commands
+    }
+
+    /// The first four variables more often, so that commands meet.
+    fn variable(&mut self) -> usize {
+        let count = self.rng.pick(&[4, 4, VARIABLES]);
+        self.rng.below(count)
+    }
+
+    fn key(&mut self) -> usize {
+        self.rng.below(self.secrets.len())
+    }
+
+    /// A secret key if chance finds one.
+    fn secret_key(&mut self) -> usize {
+        let (first, second) = (self.key(), self.key());
+        if self.secrets[first].is_some() {
+            first
+        } else {
+            second
+        }
+    }
+
+    fn passage(&mut self) {
+        match self.rng.below(20) {
+            0..=4 => self.carry(),
+            5..=7 => {
+                self.calculate();
+                if self.rng.chance(2, 3) {
+                    self.add(Command::Send);
+                }
+            }
+            8 | 9 => self.fork(),
+            10 => self.counted_loop(),
+            11 => self.message_loop(),
+            12 => self.call_on_one_side(),
+            13 => self.add(Command::Receive),
+            14 => self.add(Command::Send),
+            15 | 16 => self.plain(),
+            17 => self.leave(),
+            _ => self.jump(),
+        }
+    }
+
+    /// A command that is no call and moves on to the next.
+    fn plain(&mut self) {
+        let (v, w) = (self.variable(), self.variable());
+        let k = self.key();
+        let command = match self.rng.below(10) {
+            0 | 1 => Command::Set(v, value(self.rng)),
+            2 => Command::Add(v, w),
+            3 => Command::Sub(v, w),
+            4 => Command::Mul(v, w),
+            5 => Command::Div(v, w),
+            6 => Command::Read(v, k),
+            7 => Command::Has(v, k),
+            8 => Command::Put(k, v),
+            _ => Command::Drop(k),
+        };
+        self.add(command);
+    }
+
+    /// Takes a message, moves one entry of it, and sends it.
+    fn carry(&mut self) {
+        let v = self.variable();
+        if self.rng.chance(2, 3) {
+            self.add(Command::Receive);
+        }
+        if self.rng.chance(2, 3) {
+            let (from, other) = (self.secret_key(), self.key());
+            self.add(Command::Read(v, from));
+            if self.rng.chance(1, 2) {
+                self.plain();
+            }
+            let to = self.rng.pick(&[from, other]);
+            self.add(Command::Put(to, v));
+        }
+        self.add(Command::Send);
+    }
+
+    /// Two values, one operation, and the result where it can be seen.
+    fn calculate(&mut self) {
+        let (v, k) = (self.variable(), self.key());
+        let w = match self.rng.below(8) {
+            0 => v,
+            _ => (v + 1) % VARIABLES,
+        };
+        let (first, second) = match self.rng.below(3) {
+            0 => self.rng.pick(&NEAR_THE_ENDS),
+            _ => (value(self.rng), value(self.rng)),
+        };
+        self.add(Command::Set(v, first));
+        self.add(Command::Set(w, second));
+        let operation = self
+            .rng
+            .pick(&[Command::Add, Command::Sub, Command::Mul, Command::Div]);
+        self.add(operation(v, w));
+        self.add(Command::Put(k, v));
+    }
+
+    /// A test of an entry that may pass over some commands.
+    fn fork(&mut self) {
+        let (v, k) = (self.variable(), self.secret_key());
+        let test = self.rng.pick(&[Command::Read, Command::Has]);
+        let branch = self.rng.pick(&[Command::IfNeg, Command::IfZero]);
+        self.add(test(v, k));
+        let place = self.here();
+        self.add(branch(v, 0));
+        for _ in 0..self.rng.between(1, 3) {
+            self.plain();
+        }
+        self.aim(place, self.here());
+    }
+
+    /// A call that one execution may make and the other may not.
+    fn call_on_one_side(&mut self) {
+        let (v, k) = (self.variable(), self.secret_key());
+        let branch = self.rng.pick(&[Command::IfNeg, Command::IfZero]);
+        let call = self.rng.pick(&[Command::Receive, Command::Send]);
+        self.add(Command::Read(v, k));
+        self.add(branch(v, self.here() + 2));
+        self.add(call);
+    }
+
+    /// A few rounds, counted down in one variable by another.
+    fn counted_loop(&mut self) {
+        let (counter, one) = (self.rng.pick(&[4, 5]), self.rng.pick(&[6, 7]));
+        let rounds = self.rng.between(1, 4) as i32;
+        self.add(Command::Set(counter, rounds));
+        self.add(Command::Set(one, 1));
+        let start = self.here();
+        for _ in 0..self.rng.between(0, 2) {
+            self.plain();
+        }
+        if self.rng.chance(2, 3) {
+            let call = self.rng.pick(&[Command::Receive, Command::Send]);
+            self.add(call);
+        }
+        self.add(Command::Sub(counter, one));
+        self.add(Command::IfZero(counter, self.here() + 2));
+        self.add(Command::Jump(start));
+    }
+
+    /// Takes message after message, and leaves when an entry is missing.
+    fn message_loop(&mut self) {
+        let (v, k) = (self.variable(), self.key());
+        let start = self.here();
+        self.add(Command::Receive);
+        self.add(Command::Has(v, k));
+        let place = self.here();
+        self.add(Command::IfZero(v, END));
+        self.plain();
+        self.add(Command::Send);
+        self.add(Command::Jump(start));
+        if self.rng.chance(1, 2) {
+            self.aim(place, self.here());
+        }
+    }
+
+    /// A way to the end.
+    fn leave(&mut self) {
+        let v = self.variable();
+        let command = match self.rng.below(5) {
+            0 => Command::Stop,
+            1 => Command::Jump(END),
+            2 => Command::IfZero(v, END),
+            _ => Command::IfNeg(v, END),
+        };
+        self.add(command);
+    }
+
+    /// A jump to anywhere, the own place included.
+    fn jump(&mut self) {
+        let v = self.variable();
+        let target = match self.rng.below(4) {
+            0 => self.rng.below(MOST_COMMANDS),
+            1 => self.rng.below(self.here() + 1),
+            _ => self.here() + self.rng.between(1, 4),
+        };
+        let command = match self.rng.below(3) {
+            0 => Command::IfNeg(v, target),
+            1 => Command::IfZero(v, target),
+            _ => Command::Jump(target),
+        };
+        self.add(command);
+    }
+}

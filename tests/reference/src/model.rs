@@ -1,0 +1,816 @@
+//! The reference model of document 01, in the order of its text.
+//!
+//! Words between quotation marks are the document's own. A comment that begins with "Reading:"
+//! names the reading taken where the text leaves a choice, or seems to leave one.
+
+/// "Values are ... from -2147483648 to 2147483647."
+pub const LOWEST: i64 = -2_147_483_648;
+/// The other end of that range.
+pub const HIGHEST: i64 = 2_147_483_647;
+/// "A sheet has at most 16,384 bytes."
+pub const MOST_BYTES: usize = 16_384;
+/// "K from 1 to 8."
+pub const MOST_KEYS: usize = 8;
+/// "`do=command`, 1 to 64 lines".
+pub const MOST_COMMANDS: usize = 64;
+/// "0 to 32 lines", of `msg=`.
+pub const MOST_MESSAGES: usize = 32;
+/// "1 to 1,024 letters".
+pub const MOST_TURNS: usize = 1_024;
+/// "v and w are variables 0 to 7".
+pub const VARIABLES: usize = 8;
+/// "The answer memory is ... exactly 24 bytes."
+pub const ANSWER_BYTES: usize = 24;
+/// The bytes that `runsheet` lends.
+pub const LENT: usize = 32_768;
+
+const LINE_FEED: u8 = 10;
+
+// ---------------------------------------------------------------------------------------------
+// The sheet
+// ---------------------------------------------------------------------------------------------
+
+/// What an accepted sheet says.
+#[derive(Debug, Clone, PartialEq, Eq)]
+pub struct Job {
+    /// K. "Keys are 0 to K-1."
+    pub keys: usize,
+    /// One place per key: the dummy of a secret key. "Every other key is open", and has `None`.
+    pub secrets: Vec<Option<i32>>,
+    /// The `do=` lines, "numbered from 0".
+    pub commands: Vec<Command>,
+    /// The `msg=` lines, one place per key; `None` where the line lacks the key.
+    pub messages: Vec<Vec<Option<i32>>>,
+    /// The letters of `turns=`.
+    pub turns: Vec<Level>,
+}
+
+impl Job {
+    /// The bytes of one sent line: "That is 10 + 12 × K bytes."
+    pub fn line_length(&self) -> usize {
+        10 + 12 * self.keys
+    }
+}
+
+/// A letter of `turns=`: `L` or `H`.
+#[derive(Debug, Clone, Copy, PartialEq, Eq)]
+pub enum Level {
+    Low,
+    High,
+}
+
+/// One row of the table of commands. Parts stand in the order of the words: `v`, `w` are
+/// variables, `k` a key, `n` a number, `t` a target.
+#[derive(Debug, Clone, Copy, PartialEq, Eq)]
+pub enum Command {
+    /// `set v n`
+    Set(usize, i32),
+    /// `add v w`
+    Add(usize, usize),
+    /// `sub v w`
+    Sub(usize, usize),
+    /// `mul v w`
+    Mul(usize, usize),
+    /// `div v w`
+    Div(usize, usize),
+    /// `read v k`
+    Read(usize, usize),
+    /// `has v k`
+    Has(usize, usize),
+    /// `put k v`
+    Put(usize, usize),
+    /// `drop k`
+    Drop(usize),
+    /// `ifneg v t`
+    IfNeg(usize, usize),
+    /// `ifzero v t`
+    IfZero(usize, usize),
+    /// `jump t`
+    Jump(usize),
+    /// `receive`
+    Receive,
+    /// `send`
+    Send,
+    /// `stop`
+    Stop,
+}
+
+impl Command {
+    /// The target, where the command has one.
+    pub fn target(self) -> Option<usize> {
+        match self {
+            Command::IfNeg(_, t) | Command::IfZero(_, t) | Command::Jump(t) => Some(t),
+            _ => None,
+        }
+    }
+
+    /// "`receive`, `send`: the two calls".
+    pub fn is_call(self) -> bool {
+        matches!(self, Command::Receive | Command::Send)
+    }
+}
+
+/// Why a sheet is not accepted: the refusal number, from 1 to 9, and the line it names.
+#[derive(Debug, Clone, Copy, PartialEq, Eq)]
+pub struct Refusal {
+    pub number: u32,
+    pub line: u32,
+}
+
+/// "The class of a byte".
+#[derive(Debug, Clone, Copy, PartialEq, Eq)]
+pub enum Class {
+    Digit,
+    Minus,
+    Comma,
+    Colon,
+    Equals,
+    Space,
+    LineFeed,
+    SmallLetter,
+    CapitalLetter,
+    Other,
+    Forbidden,
+}
+
+/// "is looked up in a table of 256 entries".
+pub const CLASSES: [Class; 256] = class_table();
+
+// The first arm that fits decides, so `Other` is what the arms above it leave.
+#[allow(clippy::match_overlapping_arm)]
+const fn class_table() -> [Class; 256] {
+    let mut table = [Class::Forbidden; 256];
+    let mut byte = 0;
+    while byte < 256 {
+        table[byte] = match byte as u8 {
+            b'0'..=b'9' => Class::Digit,
+            b'-' => Class::Minus,
+            b',' => Class::Comma,
+            b':' => Class::Colon,
+            b'=' => Class::Equals,
+            b' ' => Class::Space,
+            LINE_FEED => Class::LineFeed,
+            b'a'..=b'z' => Class::SmallLetter,
+            b'A'..=b'Z' => Class::CapitalLetter,
+            32..=126 => Class::Other,
+            _ => Class::Forbidden,
+        };
+        byte += 1;
+    }
+    table
+}
+
+fn class(byte: u8) -> Class {
+    CLASSES[usize::from(byte)]
+}
+
+// ---------------------------------------------------------------------------------------------
+// From the input: refusals 1 to 9
+// ---------------------------------------------------------------------------------------------
+
+/// Reads a sheet. "Order: ... 1, 2 over the whole sheet, then line by line from the top ... 7 comes
+/// last, for the first such line, once every line has passed."
+pub fn read(sheet: &[u8]) -> Result<Job, Refusal> {
+    check_bytes(sheet)?;
+    let lines = lines(sheet);
+    let mut reader = Reader::new();
+    for (line, text) in (1..).zip(&lines) {
+        reader
+            .take_line(line, text)
+            .map_err(|number| Refusal { number, line })?;
+    }
+    reader.check_end(lines.len() as u32 + 1)?;
+    reader.check_targets()?;
+    Ok(reader.job)
+}
+
+/// Refusals 1 and 2, "over the whole sheet".
+fn check_bytes(sheet: &[u8]) -> Result<(), Refusal> {
+    // 1: "more than 16,384 bytes; line 0".
+    if sheet.len() > MOST_BYTES {
+        return Err(Refusal { number: 1, line: 0 });
+    }
+    // 2: "a byte that is neither 10 nor 32 to 126 (its line, the first such)".
+    let forbidden = |&byte: &u8| class(byte) == Class::Forbidden;
+    if let Some(place) = sheet.iter().position(forbidden) {
+        let line = line_feeds(&sheet[..place]) + 1;
+        return Err(Refusal { number: 2, line });
+    }
+    // 2: "else the last byte is not 10, or the sheet is empty (line = line feeds + 1)".
+    if sheet.last() != Some(&LINE_FEED) {
+        let line = line_feeds(sheet) + 1;
+        return Err(Refusal { number: 2, line });
+    }
+    Ok(())
+}
+
+fn line_feeds(bytes: &[u8]) -> u32 {
+    bytes.iter().filter(|&&byte| byte == LINE_FEED).count() as u32
+}
+
+/// "Each line ends with a line feed (byte 10)." The line feed is not part of the text handed on.
+fn lines(sheet: &[u8]) -> Vec<&[u8]> {
+    let mut lines: Vec<&[u8]> = sheet.split(|&byte| byte == LINE_FEED).collect();
+    // What stands after the last line feed is no line; after refusal 2 it is empty.
+    lines.pop();
+    lines
+}
+
+/// The names that lines may have.
+#[derive(Debug, Clone, Copy, PartialEq, Eq)]
+enum Name {
+    Sheet,
+    Keys,
+    Secret,
+    Do,
+    Msg,
+    Turns,
+}
+
+/// "the name before the first `=`", and what stands after that `=`. Refusal 3 if "there is no `=`"
+/// or the name may stand nowhere.
+fn split_name(text: &[u8]) -> Result<(Name, &[u8]), u32> {
+    let equals = text.iter().position(|&byte| byte == b'=').ok_or(3u32)?;
+    let name = match &text[..equals] {
+        b"sheet" => Name::Sheet,
+        b"keys" => Name::Keys,
+        b"secret" => Name::Secret,
+        b"do" => Name::Do,
+        b"msg" => Name::Msg,
+        b"turns" => Name::Turns,
+        _ => return Err(3),
+    };
+    Ok((name, &text[equals + 1..]))
+}
+
+/// "The lines come in this order", and "Nothing follows": which name may stand after which.
+fn may_stand(before: Option<Name>, name: Name) -> bool {
+    match before {
+        None => name == Name::Sheet,
+        Some(Name::Sheet) => name == Name::Keys,
+        Some(Name::Keys | Name::Secret) => matches!(name, Name::Secret | Name::Do),
+        // Reading: a 65th `do` and a 33rd `msg` may stand here by name; their refusal is 8, not 3
+        // ("65 get 8").
+        Some(Name::Do) => matches!(name, Name::Do | Name::Msg | Name::Turns),
+        Some(Name::Msg) => matches!(name, Name::Msg | Name::Turns),
+        Some(Name::Turns) => false,
+    }
+}
+
+/// What the lines so far have said.
+struct Reader {
+    before: Option<Name>,
+    secret_before: Option<usize>,
+    command_lines: Vec<u32>,
+    job: Job,
+}
+
+impl Reader {
+    fn new() -> Reader {
+        Reader {
+            before: None,
+            secret_before: None,
+            command_lines: Vec::new(),
+            job: Job {
+                keys: 0,
+                secrets: Vec::new(),
+                commands: Vec::new(),
+                messages: Vec::new(),
+                turns: Vec::new(),
+            },
+        }
+    }
+
+    /// One line: "3, then 8, then the rest". A refusal comes back as its number.
+    fn take_line(&mut self, line: u32, text: &[u8]) -> Result<(), u32> {
+        let (name, rest) = split_name(text)?;
+        if !may_stand(self.before, name) {
+            return Err(3);
+        }
+        if self.one_too_many(name, rest) {
+            return Err(8);
+        }
+        match name {
+            // 4: "the 1 of `sheet`".
+            Name::Sheet => {
+                number(rest, 1, 1)?;
+            }
+            Name::Keys => self.take_keys(rest)?,
+            Name::Secret => self.take_secret(rest)?,
+            Name::Do => self.take_command(line, rest)?,
+            Name::Msg => self.job.messages.push(message(rest, self.job.keys)?),
+            Name::Turns => self.job.turns = turns(rest)?,
+        }
+        self.before = Some(name);
+        Ok(())
+    }
+
+    /// 8: "a 65th command, a 33rd message, a 1,025th byte after `turns=`".
+    ///
+    /// Reading: the line feed that ends the line is not a byte "after `turns=`", for 8 and for 9;
+    /// else 1,024 letters could not stand. There is no such limit on `secret` lines: a ninth cannot
+    /// have a key both greater than the one before it and below K, so it gets 4 or 5.
+    fn one_too_many(&self, name: Name, rest: &[u8]) -> bool {
+        match name {
+            Name::Do => self.job.commands.len() == MOST_COMMANDS,
+            Name::Msg => self.job.messages.len() == MOST_MESSAGES,
+            Name::Turns => rest.len() > MOST_TURNS,
+            Name::Sheet | Name::Keys | Name::Secret => false,
+        }
+    }
+
+    /// "`keys=K`, once, K from 1 to 8." Reading: 0 is "beyond its limit" just as 9 is.
+    fn take_keys(&mut self, rest: &[u8]) -> Result<(), u32> {
+        self.job.keys = small(rest, 1, MOST_KEYS)?;
+        self.job.secrets = vec![None; self.job.keys];
+        Ok(())
+    }
+
+    /// "`secret=key:dummy`, none or more, keys rising." Reading: the keys rise from one `secret`
+    /// line to the next. What stands after `secret=` is one part; a comma does not divide it.
+    fn take_secret(&mut self, rest: &[u8]) -> Result<(), u32> {
+        let (key, dummy) = entry(rest, self.job.keys, self.secret_before)?;
+        self.job.secrets[key] = Some(dummy);
+        self.secret_before = Some(key);
+        Ok(())
+    }
+
+    fn take_command(&mut self, line: u32, rest: &[u8]) -> Result<(), u32> {
+        self.job.commands.push(command(rest, self.job.keys)?);
+        self.command_lines.push(line);
+        Ok(())
+    }
+
+    /// 3: "an early end of the sheet names the line after the last". Reading: this too comes before
+    /// 7, since "7 comes last".
+    fn check_end(&self, line_after: u32) -> Result<(), Refusal> {
+        if self.before == Some(Name::Turns) {
+            return Ok(());
+        }
+        Err(Refusal {
+            number: 3,
+            line: line_after,
+        })
+    }
+
+    /// 7: "a target exceeds the count of commands", "for the first such line".
+    fn check_targets(&self) -> Result<(), Refusal> {
+        let count = self.job.commands.len();
+        for (command, &line) in self.job.commands.iter().zip(&self.command_lines) {
+            if command.target().is_some_and(|target| target > count) {
+                return Err(Refusal { number: 7, line });
+            }
+        }
+        Ok(())
+    }
+}
+
+/// 4: "a number is malformed or beyond its limit".
+fn number(text: &[u8], lowest: i64, highest: i64) -> Result<i64, u32> {
+    // "there is no plus sign": a plus is no digit.
+    let (minus, digits) = match text.strip_prefix(b"-") {
+        Some(digits) => (true, digits),
+        None => (false, text),
+    };
+    if digits.is_empty() || digits.iter().any(|&byte| class(byte) != Class::Digit) {
+        return Err(4);
+    }
+    // "A number has no leading zero except 0 itself."
+    if digits.starts_with(b"0") && digits != b"0" {
+        return Err(4);
+    }
+    // "A minus sign stands only before a number other than 0".
+    if minus && digits == b"0" {
+        return Err(4);
+    }
+    // A number too large for 64 bits is beyond every limit.
+    let mut size: i64 = 0;
+    for &digit in digits {
+        let digit = i64::from(digit - b'0');
+        size = size.checked_mul(10).ok_or(4u32)?;
+        size = size.checked_add(digit).ok_or(4u32)?;
+    }
+    let number = if minus { -size } else { size };
+    if number < lowest || number > highest {
+        return Err(4);
+    }
+    Ok(number)
+}
+
+/// A number that names a variable, a key, a place or a count.
+fn small(text: &[u8], lowest: usize, highest: usize) -> Result<usize, u32> {
+    let number = number(text, lowest as i64, highest as i64)?;
+    usize::try_from(number).map_err(|_| 4)
+}
+
+/// "v and w are variables 0 to 7".
+fn variable(text: &[u8]) -> Result<usize, u32> {
+    small(text, 0, VARIABLES - 1)
+}
+
+/// "k a key": "Keys are 0 to K-1." Reading: the limit of a key is this sheet's K-1, not 7.
+fn key(text: &[u8], keys: usize) -> Result<usize, u32> {
+    small(text, 0, keys - 1)
+}
+
+/// "t a target from 0 to the count of commands"; here "t up to 64", the rest is refusal 7.
+fn target(text: &[u8]) -> Result<usize, u32> {
+    small(text, 0, MOST_COMMANDS)
+}
+
+/// "Dummies and message values have the full range above." Reading: so has the n of `set`.
+fn value(text: &[u8]) -> Result<i32, u32> {
+    let number = number(text, LOWEST, HIGHEST)?;
+    i32::try_from(number).map_err(|_| 4)
+}
+
+/// "In a `key:value` part the colon and key come first (4), then the order (5), then the value
+/// (4)."
+fn entry(part: &[u8], keys: usize, key_before: Option<usize>) -> Result<(usize, i32), u32> {
+    // "The first colon of a part divides it."
+    let colon = part.iter().position(|&byte| byte == b':').ok_or(4u32)?;
+    let key = key(&part[..colon], keys)?;
+    // 5: "a key is not greater than the one before it".
+    if key_before.is_some_and(|before| key <= before) {
+        return Err(5);
+    }
+    let value = value(&part[colon + 1..])?;
+    Ok((key, value))
+}
+
+/// "`msg=key:value,key:value`, ... keys rising within a line."
+fn message(rest: &[u8], keys: usize) -> Result<Vec<Option<i32>>, u32> {
+    let mut entries = vec![None; keys];
+    // "`msg=` alone is a message with no entries."
+    if rest.is_empty() {
+        return Ok(entries);
+    }
+    // "Parts run from left to right." Reading: every comma divides, so a comma at either end leaves
+    // an empty part, which "has no colon".
+    let mut key_before = None;
+    for part in rest.split(|&byte| byte == b',') {
+        let (key, value) = entry(part, keys, key_before)?;
+        entries[key] = Some(value);
+        key_before = Some(key);
+    }
+    Ok(entries)
+}
+
+/// 9: "no byte after `turns=`, or one other than `L` and `H`".
+fn turns(rest: &[u8]) -> Result<Vec<Level>, u32> {
+    if rest.is_empty() {
+        return Err(9);
+    }
+    let level = |&byte: &u8| match byte {
+        b'L' => Ok(Level::Low),
+        b'H' => Ok(Level::High),
+        _ => Err(9),
+    };
+    rest.iter().map(level).collect()
+}
+
+// ---------------------------------------------------------------------------------------------
+// Commands
+// ---------------------------------------------------------------------------------------------
+
+/// The words of a command. "A command is tested for 6 and then for 4 from left to right."
+///
+/// 6: "a command word is not in the table, or the count of parts is wrong; every space splits".
+/// Reading: the word is a part too, and a part may be empty; so `stop` with a space after it has
+/// two parts and gets 6, and `set 0 ` has three parts, of which the last is no number, and gets 4.
+fn command(text: &[u8], keys: usize) -> Result<Command, u32> {
+    let parts: Vec<&[u8]> = text.split(|&byte| byte == b' ').collect();
+    let command = match parts.as_slice() {
+        [b"set", v, n] => Command::Set(variable(v)?, value(n)?),
+        [b"add", v, w] => Command::Add(variable(v)?, variable(w)?),
+        [b"sub", v, w] => Command::Sub(variable(v)?, variable(w)?),
+        [b"mul", v, w] => Command::Mul(variable(v)?, variable(w)?),
+        [b"div", v, w] => Command::Div(variable(v)?, variable(w)?),
+        [b"read", v, k] => Command::Read(variable(v)?, key(k, keys)?),
+        [b"has", v, k] => Command::Has(variable(v)?, key(k, keys)?),
+        [b"put", k, v] => Command::Put(key(k, keys)?, variable(v)?),
+        [b"drop", k] => Command::Drop(key(k, keys)?),
+        [b"ifneg", v, t] => Command::IfNeg(variable(v)?, target(t)?),
+        [b"ifzero", v, t] => Command::IfZero(variable(v)?, target(t)?),
+        [b"jump", t] => Command::Jump(target(t)?),
+        [b"receive"] => Command::Receive,
+        [b"send"] => Command::Send,
+        [b"stop"] => Command::Stop,
+        _ => return Err(6),
+    };
+    Ok(command)
+}
+
+/// "clamped to the nearest end of the range".
+fn clamped(number: i64) -> i32 {
+    if number < LOWEST {
+        i32::MIN
+    } else if number > HIGHEST {
+        i32::MAX
+    } else {
+        number as i32
+    }
+}
+
+/// "v becomes v + w, v - w, v times w, clamped". No step of it leaves 64 bits.
+fn sum(v: i32, w: i32) -> i32 {
+    clamped(i64::from(v) + i64::from(w))
+}
+
+fn difference(v: i32, w: i32) -> i32 {
+    clamped(i64::from(v) - i64::from(w))
+}
+
+fn product(v: i32, w: i32) -> i32 {
+    clamped(i64::from(v) * i64::from(w))
+}
+
+/// "quotient cut toward zero and clamped; a zero divisor gives 0".
+fn quotient(v: i32, w: i32) -> i32 {
+    if w == 0 {
+        return 0;
+    }
+    clamped(i64::from(v) / i64::from(w))
+}
+
+// ---------------------------------------------------------------------------------------------
+// Two executions and one message
+// ---------------------------------------------------------------------------------------------
+
+/// "Each execution has its place and eight variables, all 0 at first." Beside them, the calls that
+/// it has made.
+#[derive(Clone, Copy)]
+struct Execution {
+    place: usize,
+    variables: [i32; VARIABLES],
+    calls: u32,
+}
+
+const FIRST: Execution = Execution {
+    place: 0,
+    variables: [0; VARIABLES],
+    calls: 0,
+};
+
+/// "Both share one message. At each key it has a low field and a high field."
+struct Message {
+    low: Vec<Option<i32>>,
+    high: Vec<Option<i32>>,
+}
+
+/// One step of one execution. `fields` are its own: "The low execution reads and changes only low
+/// fields, the high one only high fields." Of a call, only the counting and the moving on is here.
+fn step(
+    mut execution: Execution,
+    command: Command,
+    fields: &mut [Option<i32>],
+    end: usize,
+) -> Execution {
+    let variables = &mut execution.variables;
+    let mut next = execution.place + 1;
+    match command {
+        Command::Set(v, n) => variables[v] = n,
+        Command::Add(v, w) => variables[v] = sum(variables[v], variables[w]),
+        Command::Sub(v, w) => variables[v] = difference(variables[v], variables[w]),
+        Command::Mul(v, w) => variables[v] = product(variables[v], variables[w]),
+        Command::Div(v, w) => variables[v] = quotient(variables[v], variables[w]),
+        // "v becomes the entry at k, 0 if absent".
+        Command::Read(v, k) => variables[v] = fields[k].unwrap_or(0),
+        // "1 if the entry at k is present, else 0".
+        Command::Has(v, k) => variables[v] = i32::from(fields[k].is_some()),
+        Command::Put(k, v) => fields[k] = Some(variables[v]),
+        Command::Drop(k) => fields[k] = None,
+        Command::IfNeg(v, t) if variables[v] < 0 => next = t,
+        Command::IfZero(v, t) if variables[v] == 0 => next = t,
+        Command::IfNeg(..) | Command::IfZero(..) => {}
+        Command::Jump(t) => next = t,
+        Command::Receive | Command::Send => execution.calls += 1,
+        // "go to the end, the place after the last command".
+        Command::Stop => next = end,
+    }
+    execution.place = next;
+    execution
+}
+
+/// All that a run keeps.
+struct Run<'a> {
+    job: &'a Job,
+    output: &'a mut [u8],
+    low: Execution,
+    high: Execution,
+    message: Message,
+    positions: usize,
+    low_steps: usize,
+    written: usize,
+    taken: usize,
+}
+
+impl<'a> Run<'a> {
+    /// "All fields are absent at first."
+    fn first(job: &'a Job, output: &'a mut [u8]) -> Run<'a> {
+        Run {
+            job,
+            output,
+            low: FIRST,
+            high: FIRST,
+            message: Message {
+                low: vec![None; job.keys],
+                high: vec![None; job.keys],
+            },
+            positions: 0,
+            low_steps: 0,
+            written: 0,
+            taken: 0,
+        }
+    }
+
+    /// "An execution at the end has stopped", and has no command.
+    fn command(&self, execution: &Execution) -> Option<Command> {
+        self.job.commands.get(execution.place).copied()
+    }
+
+    /// "The low execution does its command."
+    fn low_turn(&mut self, command: Command) {
+        match command {
+            Command::Receive => self.receive(),
+            Command::Send => self.send(),
+            _ => {}
+        }
+        let end = self.job.commands.len();
+        self.low = step(self.low, command, &mut self.message.low, end);
+        self.low_steps += 1;
+    }
+
+    /// "`receive` takes the next message line and fills all fields".
+    fn receive(&mut self) {
+        let line = self.job.messages.get(self.taken);
+        for key in 0..self.job.keys {
+            let (low, high) = match (line, self.job.secrets[key]) {
+                // "at an open key both fields are the entry or absent".
+                (Some(line), None) => (line[key], line[key]),
+                // "At a secret key the low field is the dummy, whether or not the line has that
+                // key, and the high field is the entry or absent."
+                (Some(line), Some(dummy)) => (Some(dummy), line[key]),
+                // "With no line left, every field becomes absent." Reading: the low field of a
+                // secret key too; the dummy stands in for a line only.
+                (None, _) => (None, None),
+            };
+            self.message.low[key] = low;
+            self.message.high[key] = high;
+        }
+        // "Messages taken counts lines, so a `receive` with none left adds nothing." Reading: it is
+        // a call all the same, and the high execution may follow it.
+        if line.is_some() {
+            self.taken += 1;
+        }
+    }
+
+    /// "`send` writes one line ... The message is unchanged by it."
+    fn send(&mut self) {
+        let line = sent_line(self.job, self.positions, &self.message);
+        let end = self.written + line.len();
+        self.output[self.written..end].copy_from_slice(line.as_bytes());
+        self.written = end;
+    }
+
+    /// "The high execution does its command", or "the turn passes idle".
+    fn high_turn(&mut self) {
+        // "A stopped high execution also idles."
+        let Some(command) = self.command(&self.high) else {
+            return;
+        };
+        // "Its j-th call (j from 1) moves on only if the low execution has made at least j calls,
+        // of either kind." Reading: a call that waits is not made yet, so j is one more than the
+        // calls it has moved on from.
+        let j = self.high.calls + 1;
+        if command.is_call() && self.low.calls < j {
+            return;
+        }
+        // "A `receive` or `send` of its own has no effect but to move it on."
+        let end = self.job.commands.len();
+        self.high = step(self.high, command, &mut self.message.high, end);
+    }
+
+    fn answer(&self, ending: u32) -> [u32; 6] {
+        // No count is above 1,024 lines of 106 bytes, so each fits in 32 bits.
+        [
+            ending,
+            0,
+            self.positions as u32,
+            self.low_steps as u32,
+            self.written as u32,
+            self.taken as u32,
+        ]
+    }
+}
+
+/// "A sent line is `sent=`, the position in four digits, then for each key a space and 11
+/// characters ... A line feed ends it."
+fn sent_line(job: &Job, position: usize, message: &Message) -> String {
+    let mut line = format!("sent={position:04}");
+    for key in 0..job.keys {
+        // "open keys from the low fields, secret keys from the high fields".
+        let field = match job.secrets[key] {
+            None => message.low[key],
+            Some(_) => message.high[key],
+        };
+        line.push(' ');
+        line.push_str(&column(field));
+    }
+    line.push('\n');
+    line
+}
+
+/// "a sign `+` or `-` and ten digits, or eleven dots for absent". "Zero has `+`."
+fn column(field: Option<i32>) -> String {
+    match field {
+        None => "...........".to_string(),
+        Some(number) => {
+            let sign = if number < 0 { '-' } else { '+' };
+            format!("{sign}{:010}", i64::from(number).abs())
+        }
+    }
+}
+
+/// "The secret columns are the 11 characters of secret keys: place p of the output memory, from 0,
+/// lies in one exactly when p is below the bytes written and the remainder of p by 10 + 12 × K is
+/// from 10 + 12 × k to 20 + 12 × k for a secret key k."
+pub fn in_secret_column(job: &Job, place: usize, written: usize) -> bool {
+    let remainder = place % job.line_length();
+    let in_column = |k: usize| (10 + 12 * k..=20 + 12 * k).contains(&remainder);
+    place < written && (0..job.keys).any(|k| job.secrets[k].is_some() && in_column(k))
+}
+
+// ---------------------------------------------------------------------------------------------
+// What a run answers
+// ---------------------------------------------------------------------------------------------
+
+/// Runs a job to its ending. Six numbers: "ending or refusal number, line, positions used, low
+/// steps, bytes written, messages taken". The job must be one that [`read`] could return.
+pub fn run(job: &Job, output: &mut [u8]) -> [u32; 6] {
+    let mut run = Run::first(job, output);
+    // "Before each turn ... They are tested in that order."
+    loop {
+        // 0: "the low execution has stopped".
+        let Some(command) = run.command(&run.low) else {
+            return run.answer(0);
+        };
+        // 31: "it has not, and all letters are used".
+        let Some(&letter) = job.turns.get(run.positions) else {
+            return run.answer(31);
+        };
+        // 32: "it has not, a letter L is next, its command is `send`, and fewer bytes are left than
+        // a line needs; this turn is not counted".
+        let left = run.output.len() - run.written;
+        if letter == Level::Low && command == Command::Send && left < job.line_length() {
+            return run.answer(32);
+        }
+        match letter {
+            Level::Low => run.low_turn(command),
+            Level::High => run.high_turn(),
+        }
+        // "Positions used counts the letters whose turns were taken, idle ones included".
+        run.positions += 1;
+    }
+}
+
+/// Reads a sheet and runs it. "From the input. Output memory is untouched and the four counts are
+/// 0."
+pub fn run_sheet(sheet: &[u8], output: &mut [u8]) -> [u32; 6] {
+    match read(sheet) {
+        Ok(job) => run(&job, output),
+        Err(refusal) => [refusal.number, refusal.line, 0, 0, 0, 0],
+    }
+}
+
+/// What the C program calls. "The six numbers go there in 32 bits each, low byte first, and the
+/// first is also the return."
+pub fn c_entry(sheet: &[u8], output: &mut [u8], answer: &mut [u8]) -> u32 {
+    // 10: "the answer memory is not exactly 24 bytes; returned before anything else, nothing
+    // written".
+    if answer.len() != ANSWER_BYTES {
+        return 10;
+    }
+    let numbers = run_sheet(sheet, output);
+    for (bytes, number) in answer.chunks_exact_mut(4).zip(numbers) {
+        bytes.copy_from_slice(&number.to_le_bytes());
+    }
+    numbers[0]
+}
+
+/// What `runsheet` prints when it lends `lent` bytes: "the sent lines and then `end=` with the six
+/// numbers, single spaces between and a line feed last". It "reads at most 16,385 bytes", which is
+/// enough to refuse every longer sheet in the same words.
+pub fn printed(sheet: &[u8], lent: usize) -> Vec<u8> {
+    let mut output = vec![0; lent];
+    let numbers = run_sheet(sheet, &mut output);
+    output.truncate(numbers[4] as usize);
+    output.extend_from_slice(&end_line(numbers));
+    output
+}
+
+/// The last line that `runsheet` prints.
+pub fn end_line(numbers: [u32; 6]) -> Vec<u8> {
+    let words = numbers.map(|number| number.to_string());
+    format!("end={}\n", words.join(" ")).into_bytes()
+}
