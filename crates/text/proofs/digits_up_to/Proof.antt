@@ -21,9 +21,6 @@ abbrev μ-loop : tie.MeasureT-loop
 loop-holds : tie.Need-loop-holds Inv-loop μ-loop
 loop-holds c = (omega arith, omega arith, refl)
 
-shared-slice-read-b : tie.Need-shared-slice-read-b Inv-loop μ-loop
-shared-slice-read-b c = omega arith
-
 cast-class : tie.Need-cast-class Inv-loop μ-loop
 cast-class c = omega (arith, c .shared-slice-known2 .given (c .before .before .loop .i))
 
@@ -45,18 +42,12 @@ returns c =
     let byte : getD (a .s .now) (l .i) 0 < 256 = omega (arith, c .before .shared-slice-known2 .given (l .i)) in
     cc (digits-bad (a .m) (l .a) (a .s .now) (l .i) (c .before .before .loop-test .taken) (other-here (a .s .now) (l .i) byte (c .if1 .taken)))
 
-mul-a : tie.Need-mul-a Inv-loop μ-loop
-mul-a c = omega arith
-
 sub-wide : tie.Need-sub-wide Inv-loop μ-loop
 sub-wide c =
     let a = c .before .before .before .before .before .args in
     let l = c .before .before .before .loop in
     let byte : getD (a .s .now) (l .i) 0 < 256 = omega (arith, c .before .shared-slice-known2 .given (l .i)) in
     class-digit _ (digit-here (a .s .now) (l .i) byte (c .if1 .left)) .0
-
-wide-requires : tie.Need-wide-requires Inv-loop μ-loop
-wide-requires c κs = search needs
 
 add-a : tie.Need-add-a Inv-loop μ-loop
 add-a c =
@@ -76,12 +67,6 @@ returns-2 c =
       digits-past (a .m) (l .a * 10 + (getD (a .s .now) (l .i) 0 - 48)) (drop (l .i + 1) (a .s .now)) (omega arith),
     )
 
-add-i : tie.Need-add-i Inv-loop μ-loop
-add-i c = omega arith
-
-loop-less : tie.Need-loop-less Inv-loop μ-loop
-loop-less c = omega arith
-
 loop-again : tie.Need-loop-again Inv-loop μ-loop
 loop-again c =
     let a = c .before .before .before .before .before .before .before .args in
@@ -99,4 +84,4 @@ returns-3 c =
     cc (digits-end (a .m) (l .a) (a .s .now) (l .i) (c .loop-test .left) (l .inv .1))
 
 pub digits-up-to-spec : {M : Type 1} → statement M
-digits-up-to-spec = tie.close (tie.spec Inv-loop μ-loop loop-holds shared-slice-read-b cast-class array-read-class returns mul-a sub-wide wide-requires add-a returns-2 add-i loop-less loop-again returns-3)
+digits-up-to-spec = tie.close (tie.spec Inv-loop μ-loop loop-holds (λ c. omega arith) cast-class array-read-class returns (λ c. omega arith) sub-wide (λ c κs. search needs) add-a returns-2 (λ c. omega arith) (λ c. omega arith) loop-again returns-3)

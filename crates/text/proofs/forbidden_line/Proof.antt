@@ -1,9 +1,8 @@
 -- What is still to scan gives what the whole gives; `line` is the line of byte `i`.
-use Prim.Native.Nat.{ℕ, _≤_, _<_, _+_, _-_}
+use Prim.Native.Nat.{_≤_, _+_, _-_}
 use mathlib.Core.Logic.{⊎-elim}
-use mathlib.Core.Path.{_≡_, _∙_, sym, ap}
+use mathlib.Core.Path.{_≡_, _∙_, sym}
 use native.Mathlib.Omega.{arith}
-use borrow.Author.Needs.{needs}
 use lib.ListN.{length, drop, getD}
 use Rattle.model.specs.Bytes.{classOf}
 use Rattle.model.specs.Reading.{forbiddenLine}
@@ -18,12 +17,6 @@ Inv-loop s table line₀ i₀ line i = (i ≤ length s) × (line ≤ i + 1) × (
 abbrev μ-loop : tie.MeasureT-loop
 μ-loop s table line₀ i₀ line i = length s - i
 
-loop-holds : tie.Need-loop-holds Inv-loop μ-loop
-loop-holds c = omega arith
-
-shared-slice-read-b : tie.Need-shared-slice-read-b Inv-loop μ-loop
-shared-slice-read-b c = omega arith
-
 cast-class : tie.Need-cast-class Inv-loop μ-loop
 cast-class c = omega (arith, c .shared-slice-known .given (c .before .before .loop .i))
 
@@ -37,15 +30,6 @@ returns c =
     let h = c .before .before .loop-test .taken in
     let r = class-at (getD s (l .i) 0) (omega (arith, c .before .shared-slice-known .given (l .i))) in
     cc (forbidden-here (l .line) s (l .i) h (sym r ∙ c .if1 .taken))
-
-add-line : tie.Need-add-line Inv-loop μ-loop
-add-line c = omega arith
-
-add-i : tie.Need-add-i Inv-loop μ-loop
-add-i c = omega arith
-
-loop-less : tie.Need-loop-less Inv-loop μ-loop
-loop-less c = omega arith
 
 loop-again : tie.Need-loop-again Inv-loop μ-loop
 loop-again c =
@@ -63,4 +47,4 @@ returns-2 : tie.Need-returns-2 Inv-loop μ-loop
 returns-2 c = sym (forbidden-end _ _ _ (c .loop-test .left)) ∙ c .before .loop .inv .2
 
 pub forbidden-line-spec : {M : Type 1} → statement M
-forbidden-line-spec = tie.close (tie.spec Inv-loop μ-loop loop-holds shared-slice-read-b cast-class array-read-class returns add-line add-i loop-less loop-again returns-2)
+forbidden-line-spec = tie.close (tie.spec Inv-loop μ-loop (λ c. omega arith) (λ c. omega arith) cast-class array-read-class returns (λ c. omega arith) (λ c. omega arith) (λ c. omega arith) loop-again returns-2)

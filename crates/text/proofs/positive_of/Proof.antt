@@ -1,18 +1,15 @@
 use Rattle.model.specs.Number.{upTo}
 use Rattle.text.specs.Meaning.{naturalAs}
-use mir.ValLaws.{toZ-pos, toZ-ofZ}
-use mir.Syntax.{w32, w64}
+use mir.ValLaws.{toZ-pos}
+use mir.Syntax.{w32}
 use Rattle.text.proofs.Laws.{up-to-bound, positive-bad, positive-ok}
 use Rattle.model.specs.Parsed.{ok}
 use native.Mathlib.Omega.{arith}
 use Prim.Native.Nat.{_≤_}
-use mathlib.Core.Path.{_≡_, _∙_, sym, ap, refl}
+use mathlib.Core.Path.{_≡_, _∙_, sym, ap}
 use borrow.Author.Needs.{needs}
 use Rattle.text.proofs.positive_of.Statement.{statement}
 use Rattle.text.proofs.positive_of.Tie as tie
-use Rattle.text.proofs.positive_of.Reads as reads
-use Rattle.text.proofs.positive_of.Lts as lts
-use Rattle.text.proofs.up_to.Reads as up-to-reads
 
 read : (c : tie.After-n) → upTo 2147483647 (c .before .before .before .before .args .s .now) ≡ ok (c .n .given .0 .0)
 read c = sym (c .before .before .up-to .ensures) ∙ ap naturalAs (c .n .given .1)
@@ -20,30 +17,15 @@ read c = sym (c .before .before .up-to .ensures) ∙ ap naturalAs (c .n .given .
 bound : (c : tie.After-n) → c .n .given .0 .0 ≤ 2147483647
 bound c = up-to-bound _ _ _ (read c)
 
--- src/lib.rt:84:11
-up-to-requires : tie.Need-up-to-requires
-up-to-requires c κs = search needs
-
--- src/lib.rt:85:23
-enum-known-n : tie.Need-enum-known-n
-enum-known-n c = search needs
-
--- src/lib.rt:85:42
 cast-t5 : tie.Need-cast-t5
 cast-t5 c = let b = bound (c .before) in record { sfits = omega arith }
 
--- src/lib.rt:86:27
-enum-told : tie.Need-enum-told
-enum-told c = search needs
-
--- src/lib.rt:81:1
 returns : tie.Need-returns
 returns c = let b = bound (c .before) in ap ok (toZ-pos w32 (c .before .n .given .0 .0) (omega arith)) ∙ sym (positive-ok _ _ (read (c .before)))
 
--- src/lib.rt:81:1
 returns-2 : tie.Need-returns-2
 returns-2 c = sym (positive-bad _ (sym (c .before .before .up-to .ensures) ∙ ap naturalAs (c .enum-told .given .1)))
 
 pub positive-of-spec : {M : Type 1} → statement M
 positive-of-spec =
-    tie.close (tie.spec up-to-requires enum-known-n cast-t5 enum-told returns returns-2)
+    tie.close (tie.spec (λ c κs. search needs) (λ c. search needs) cast-t5 (λ c. search needs) returns returns-2)
