@@ -22,22 +22,22 @@ use Rattle.model.proofs.Lockstep.{Agree, done, next, LinesAgree, SentLi
 
 -- ---- Lengths
 
-digits-length : (w n : ℕ) → length (digits w n) ≡ w
+pub digits-length : (w n : ℕ) → length (digits w n) ≡ w
 unfolding digits
 digits-length zero n = refl
 digits-length (suc w) n = length-append (digits w (n / 10)) _ ∙ ap (λ (m : ℕ). m + 1) (digits-length w (n / 10)) ∙ add-one w
 
-cell-length : (e : Entry) → length (cell e) ≡ 11
+pub cell-length : (e : Entry) → length (cell e) ≡ 11
 unfolding cell
 cell-length Absent = refl
 cell-length (Number z) = ap suc (digits-length 10 (natAbs z))
 
-cells-length : (es : List Entry) → length (cells es) ≡ 12 * length es
+pub cells-length : (es : List Entry) → length (cells es) ≡ 12 * length es
 unfolding cells
 cells-length [] = refl
 cells-length (e ∷ es) = omega (arith, length-append (cell e) (cells es), cell-length e, cells-length es)
 
-heading-length : (n : ℕ) → length (heading n) ≡ 9
+pub heading-length : (n : ℕ) → length (heading n) ≡ 9
 unfolding heading bytes
 heading-length n = omega (arith, digits-length 4 n)
 

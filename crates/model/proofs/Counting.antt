@@ -9,7 +9,7 @@ use native.Mathlib.Omega.{arith}
 use native.Mathlib.Nat.{zero-add}
 use Rattle.model.specs.Execution.{callOf}
 use Rattle.model.specs.Job.{Job}
-use Rattle.model.specs.Run.{Sent, Common, State, Outcome, command, stopped, at, put, process, takes, receive, columns, send, share, counted, lead, follow, turn, lineLength, written, short, allUsed, noRoom, verdictBy, verdict, ended, settle, run, initial, runJob}
+use Rattle.model.specs.Run.{Sent, Common, State, Outcome, fieldsOf, command, stopped, at, put, process, takes, receive, columns, send, share, counted, lead, follow, turn, lineLength, written, short, allUsed, noRoom, verdictBy, verdict, ended, settle, run, initial, runJob}
 use Rattle.model.specs.Counts.{lows, Counted}
 use Rattle.model.specs.declared.Entry.{Entry}
 use Rattle.model.specs.declared.Command.{Command}
@@ -66,7 +66,7 @@ module _ (ks : List Key) (room all : ℕ) where
   share-fits Receives s e h = subst⁻¹ (λ (l : List Sent). lineLength ks * length l ≤ room) (takes-sent (s .common .rest) (s .common)) h
   share-fits Sends s e h =
       let l : lineLength ks ≤ room - lineLength ks * length (s .common .sent) = ltb-false _ _ e in
-      let line : Sent = record { position = s .common .positions; columns = columns 0 ks s } in
+      let line : Sent = record { position = s .common .positions; columns = columns 0 ks (fieldsOf s) } in
       subst⁻¹ (λ (n : ℕ). lineLength ks * n ≤ room) (length-append (s .common .sent) (line ∷ [])) (omega arith)
 
   ended-from : (e : Ending) (s : State) (ls : List Level) → Sound ks room all s → From ks room all s ls (ended ks e s)

@@ -9,7 +9,7 @@ use lib.Seq.{getD-drop}
 use lib.Dec.{ltb}
 use native.Mathlib.Numerals.{one-add}
 use Rattle.model.specs.Execution.{callOf}
-use Rattle.model.specs.Run.{Process, Processes, Sent, Common, State, Outcome, entry, refill, step, command, stopped, at, put, each, process, withProcess, shown, source, fill, takes, received, receive, columns, send, share, counted, lead, waits, followed, follow, turn, lineLength, written, short, allUsed, noRoom, verdictBy, verdict, ended, settle, run, initial}
+use Rattle.model.specs.Run.{Process, Processes, Sent, Common, State, Outcome, fieldsOf, refill, step, command, stopped, at, put, each, process, withProcess, shown, source, fill, takes, received, receive, columns, send, share, counted, lead, waits, followed, follow, turn, lineLength, written, short, allUsed, noRoom, verdictBy, verdict, ended, settle, run, initial}
 use Rattle.model.specs.declared.Entry.{Entry}
 use Rattle.model.specs.declared.Entry.the-variants.{Absent, Number}
 use Rattle.model.specs.declared.Command.{Command}
@@ -119,10 +119,10 @@ unfolding fill
 fill-alike o hid l lo [] a b h = refl
 fill-alike o hid l lo (k ∷ ks) a b h = ap₂ _∷_ (shown-alike o hid l lo k (h 0 (suc-le-suc zero-le))) (fill-alike o hid l lo ks (drop 1 a) (drop 1 b) (tail-alike o k ks a b h))
 
-pub columns-alike : (o : Level) (ks : List Key) (s t : State) → Like o ks s t → (i : ℕ) (js : List Key) → Agree o js (columns i js s) (columns i js t)
+pub columns-alike : (o : Level) (ks : List Key) (s t : State) → Like o ks s t → (i : ℕ) (js : List Key) → Agree o js (columns i js (fieldsOf s)) (columns i js (fieldsOf t))
 unfolding columns
 columns-alike o ks s t h i [] = done
-columns-alike o ks s t h i (j ∷ js) = next (λ own. ap (λ (p : Process). entry p i) (h .processes (source j) own)) (columns-alike o ks s t h (suc i) js)
+columns-alike o ks s t h i (j ∷ js) = next (λ own. ap (λ (p : Process). getD (p .fields) i Absent) (h .processes (source j) own)) (columns-alike o ks s t h (suc i) js)
 
 module _ (o : Level) (hid : Low ≢ o) (ks : List Key) where
   -- ---- The steps of a turn keep the relation

@@ -97,6 +97,9 @@ each f ps = record { low = f Low (ps .low); high = f High (ps .high) }
 abbrev pub process : Level → State → Process
 process l s = at l (s .processes)
 
+abbrev pub fieldsOf : State → Level → List Entry
+fieldsOf s l = process l s .fields
+
 abbrev pub withProcess : Level → Process → State → State
 withProcess l p s = record { processes = put l p (s .processes); common = s .common }
 
@@ -135,17 +138,17 @@ unfoldable pub source : Key → Level
 source Open = Low
 source (Secret d) = High
 
--- the columns of the keys from number i on
-unfoldable pub columns : ℕ → List Key → State → List Entry
-columns i [] s = []
-columns i (k ∷ ks) s = entry (process (source k) s) i ∷ columns (suc i) ks s
+-- the columns of the keys from number i on, each from the fields of its level
+unfoldable pub columns : ℕ → List Key → (Level → List Entry) → List Entry
+columns i [] f = []
+columns i (k ∷ ks) f = getD (f (source k)) i Absent ∷ columns (suc i) ks f
 
 abbrev pub sends : List Entry → Common → Common
 sends es c = record { rest = c .rest; taken = c .taken; sent = c .sent ++ (record { position = c .positions; columns = es } ∷ []); positions = c .positions; steps = c .steps }
 
 -- "`send` writes one line"; "The message is unchanged by it."
 unfoldable pub send : List Key → State → State
-send ks s = record { processes = s .processes; common = sends (columns 0 ks s) (s .common) }
+send ks s = record { processes = s .processes; common = sends (columns 0 ks (fieldsOf s)) (s .common) }
 
 -- ---- Turns
 

@@ -1,0 +1,72 @@
+// The fields of the message, as a receive fills them.
+use model::Entry;
+use model::Field;
+use model::Key;
+use model::KeySlot;
+use model::MessageLine;
+ghost use mathlib.Core.Path.{_≡_};
+ghost use Prim.Native.Nat.{_≤_};
+ghost use Rattle.model.specs.Job.{entriesIn};
+ghost use Rattle.output.specs.Views.{keysHeld};
+ghost use Rattle.fields.specs.Filled.{fieldOf, withLow, withHigh, Filled, Cleared};
+
+// A key's fields where the line has the entry e at it: a secret key's low field is the dummy, whether or not e is present.
+fn field(key: Key, e: Entry) -> Field
+    ensures { λ r. ⌜ r ≡ fieldOf key e ⌝ }
+{
+    match key {
+        Key::Open => Field { low: e, high: e },
+        Key::Secret(d) => {
+            let dummy = Entry::Number(d);
+            Field {
+                low: dummy,
+                high: e,
+            }
+        }
+    }
+}
+
+// The fields that a message line fills.
+pub fn fill(keys: usize, secrets: [KeySlot; 8], line: MessageLine) -> [Field; 8]
+    requires { ⌜ keys ≤ 8 ⌝ }
+    ensures { λ r. ⌜ Filled keys r (keysHeld keys secrets) (entriesIn keys line) ⌝ }
+{
+    let mut message = cleared();
+    let slots = line.slots;
+    let mut k: usize = 0;
+    while k < keys {
+        let s = secrets[k];
+        let key = s.key;
+        let t = slots[k];
+        let e = t.entry;
+        message[k] = field(key, e);
+        k += 1;
+    }
+    message
+}
+
+// With no line left, every field becomes absent.
+pub fn cleared() -> [Field; 8]
+    ensures { λ r. ⌜ Cleared r ⌝ }
+{
+    let none = Field {
+        low: Entry::Absent,
+        high: Entry::Absent,
+    };
+    [none; 8]
+}
+
+// The low execution changes only the low field, the high one only the high field.
+pub fn with_low(f: Field, e: Entry) -> Field
+    ensures { λ r. ⌜ r ≡ withLow f e ⌝ }
+{
+    let h = f.high;
+    Field { low: e, high: h }
+}
+
+pub fn with_high(f: Field, e: Entry) -> Field
+    ensures { λ r. ⌜ r ≡ withHigh f e ⌝ }
+{
+    let l = f.low;
+    Field { low: l, high: e }
+}

@@ -1,0 +1,33 @@
+-- The heading, the cells and the line feed make the line.
+use mathlib.Core.Path.{_∙_}
+use native.Mathlib.Omega.{arith}
+use lib.ListN.{length-set}
+use Rattle.output.proofs.Laws.{columns-count, line-written}
+use borrow.Author.Needs.{needs}
+use Rattle.output.proofs.send.Statement.{statement}
+use Rattle.output.proofs.send.Tie as tie
+
+cells-requires : tie.Need-cells-requires
+cells-requires c κs = let kept = c .before .before .before .heading .kept .0 in record { few = search needs; room = omega arith }
+
+same-length : tie.Need-same-length
+same-length c = simp length-set (c .before .before .cells .kept .0 ∙ c .before .before .before .before .before .before .heading .kept .0)
+
+returns : tie.Need-returns
+returns c =
+    let a = c .before .before .before .before .before .before .before .before .before .args in
+    line-written _ _ _ _ _ _ _ (columns-count (a .keys) (a .secrets) (a .message) (omega arith)) (omega arith) (c .before .before .before .before .before .before .heading .ensures) (c .before .before .cells .ensures)
+
+pub send-spec : {M : Type 1} → statement M
+send-spec =
+    tie.close
+    (tie.spec
+    (λ c κs. search needs)
+    (λ c. search needs)
+    cells-requires
+    (λ c. search needs)
+    (λ c. search needs)
+    (λ c. search needs)
+    (λ c. search needs)
+    same-length
+    returns)
