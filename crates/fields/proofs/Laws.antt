@@ -6,7 +6,7 @@ use native.Mathlib.Omega.{arith}
 use native.Mathlib.Nat.{le-of-suc-le-suc, not-suc-le-zero}
 use native.Mathlib.Numerals.{add-one}
 use lib.ListN.{length, getD, take, drop, set, replicate, length-map, List·getD-map}
-use lib.Seq.{take-suc, take-suc-set, take-all, getD-take, length-take-le}
+use lib.Seq.{take-suc, take-suc-set, take-set-lt, take-all, getD-take, length-take-le, map-set-same}
 use Rattle.model.specs.Job.{keyIn, entryIn}
 use Rattle.model.specs.Run.{shown, fill}
 use Rattle.output.specs.Views.{side, held, keysHeld}
@@ -97,3 +97,25 @@ module _ (n : ℕ) (ss : List KeySlot) (ts : List EntrySlot) (keys : n ≤ lengt
       ∙ h
       ∙ ap (λ (i : ℕ). take i (fill l ks es)) e
       ∙ take-all n (fill l ks es) (omega (arith, fill-length l ks es, keys-count))
+
+-- ---- No line left
+
+take-same : {A : Type 0} (x : A) (n m : ℕ) → n ≤ m → take n (replicate m x) ≡ replicate n x
+take-same x zero m h = refl
+take-same x (suc n) zero h = absurd (not-suc-le-zero h)
+take-same x (suc n) (suc m) h = ap (λ l. x ∷ l) (take-same x n m (le-of-suc-le-suc h))
+
+pub cleared-held : (n : ℕ) (m : List Field) → n ≤ 8 → m ≡ replicate 8 (record { low = Absent; high = Absent }) → (l : Level) → held n m l ≡ replicate n Absent
+unfolding held
+cleared-held n m h e Low = ap (λ (f : List Field). take n (map (side Low) f)) e ∙ take-same Absent n 8 h
+cleared-held n m h e High = ap (λ (f : List Field). take n (map (side High) f)) e ∙ take-same Absent n 8 h
+
+-- ---- One field changed
+
+pub held-set : (n : ℕ) (m : List Field) (l : Level) (k : ℕ) (f : Field) → k < n → held n (set m k f) l ≡ set (held n m l) k (side l f)
+unfolding held
+held-set n m l k f h = ap (take n) (map-set (side l) m k f) ∙ take-set-lt n (map (side l) m) k (side l f) h
+
+pub held-same : (n : ℕ) (m : List Field) (l : Level) (k : ℕ) (f d : Field) → side l f ≡ side l (getD m k d) → held n (set m k f) l ≡ held n m l
+unfolding held
+held-same n m l k f d e = ap (take n) (map-set-same (side l) m k f d e)

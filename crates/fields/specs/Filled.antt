@@ -1,6 +1,7 @@
 -- What a receive leaves in the message, as each level has it.
 use Prim.Native.Nat.{ℕ}
 use mathlib.Core.Path.{_≡_}
+use mathlib.Core.Bool.{Bool, cond}
 use mathlib.Core.List.{List}
 use lib.ListN.{length, replicate}
 use Rattle.model.specs.Run.{shown, fill}
@@ -25,6 +26,11 @@ withHigh f e = record { low = f .low; high = e }
 pub record Filled (n : ℕ) (m : List Field) (ks : List Key) (es : List Entry) : Type 0 where
   pub low : held n m Low ≡ fill Low ks es
   pub high : held n m High ≡ fill High ks es
+
+-- the fields after a receive that finds a line es left, or none
+pub record Received (n : ℕ) (m : List Field) (ks : List Key) (left : Bool) (es : List Entry) : Type 0 where
+  pub low : held n m Low ≡ cond left (fill Low ks es) (replicate n Absent)
+  pub high : held n m High ≡ cond left (fill High ks es) (replicate n Absent)
 
 -- every field is absent
 abbrev pub Cleared : List Field → Type 0

@@ -8,7 +8,7 @@ ghost use mathlib.Core.Path.{_≡_};
 ghost use Prim.Native.Nat.{_≤_};
 ghost use Rattle.model.specs.Job.{entriesIn};
 ghost use Rattle.output.specs.Views.{keysHeld};
-ghost use Rattle.fields.specs.Filled.{fieldOf, withLow, withHigh, Filled, Cleared};
+ghost use Rattle.fields.specs.Filled.{fieldOf, withLow, withHigh, Filled, Received, Cleared};
 
 // A key's fields where the line has the entry e at it: a secret key's low field is the dummy, whether or not e is present.
 fn field(key: Key, e: Entry) -> Field
@@ -27,7 +27,7 @@ fn field(key: Key, e: Entry) -> Field
 }
 
 // The fields that a message line fills.
-pub fn fill(keys: usize, secrets: [KeySlot; 8], line: MessageLine) -> [Field; 8]
+fn fill(keys: usize, secrets: [KeySlot; 8], line: MessageLine) -> [Field; 8]
     requires { ⌜ keys ≤ 8 ⌝ }
     ensures { λ r. ⌜ Filled keys r (keysHeld keys secrets) (entriesIn keys line) ⌝ }
 {
@@ -45,7 +45,18 @@ pub fn fill(keys: usize, secrets: [KeySlot; 8], line: MessageLine) -> [Field; 8]
     message
 }
 
-// With no line left, every field becomes absent.
+// The fields after a receive: those that the line fills, where one is left; else every field is absent.
+pub fn receive(keys: usize, secrets: [KeySlot; 8], left: bool, line: MessageLine) -> [Field; 8]
+    requires { ⌜ keys ≤ 8 ⌝ }
+    ensures { λ r. ⌜ Received keys r (keysHeld keys secrets) left (entriesIn keys line) ⌝ }
+{
+    if left {
+        return fill(keys, secrets, line);
+    }
+    cleared()
+}
+
+// Every field absent.
 pub fn cleared() -> [Field; 8]
     ensures { λ r. ⌜ Cleared r ⌝ }
 {

@@ -3,7 +3,8 @@ use mathlib.Core.Bool.{Bool, true, false, cond}
 use Prim.Native.Nat.{ℕ, zero, suc, _+_}
 use lib.IntN.{ℤ, pos, negsuc}
 use lib.Signed.{ltZ}
-use lib.ListN.{getD, set}
+use lib.ListN.{getD, set, replicate}
+use Rattle.model.specs.Limits.{variables}
 use Rattle.model.specs.Arithmetic.{sum, difference, product, quotient, isZero}
 use Rattle.model.specs.declared.Op.{Op}
 use Rattle.model.specs.declared.Op.the-variants.{Set, Add, Sub, Mul, Div, Read, Has, Put, Drop, IfNeg, IfZero, Jump, Receive, Send, Stop}
@@ -33,6 +34,14 @@ variable x v = getD (x .vars) v (pos 0)
 abbrev pub afterOf : Execution → ℕ → ℤ → ℕ → ℕ → Execution
 afterOf x v z p n = record { place = p; vars = set (x .vars) v z; calls = n }
 
+-- the next record after a call
+abbrev pub calledOf : Execution → Execution
+calledOf x = record { place = x .place + 1; vars = x .vars; calls = x .calls + 1 }
+
+-- "Each execution has its place and eight variables, all 0 at first."
+abbrev pub begun : Execution
+begun = record { place = 0; vars = replicate variables (pos 0); calls = 0 }
+
 -- the four ways of a command: to go to a place, to change a variable, to change the entry, to call. All but the first go to the next place.
 abbrev pub goes : ℕ → Execution → Entry → Stepped
 goes t x e = record { execution = record { place = t; vars = x .vars; calls = x .calls }; entry = e }
@@ -44,7 +53,7 @@ abbrev pub enters : Entry → Execution → Stepped
 enters e x = record { execution = record { place = x .place + 1; vars = x .vars; calls = x .calls }; entry = e }
 
 abbrev pub calling : Execution → Entry → Stepped
-calling x e = record { execution = record { place = x .place + 1; vars = x .vars; calls = x .calls + 1 }; entry = e }
+calling x e = record { execution = calledOf x; entry = e }
 
 -- A command by its word, in a program of n commands; a and b are what the variables v and w hold, e the entry at k. A call only moves the
 -- execution on here: what else it does is said with the turns.

@@ -3,11 +3,9 @@ use Prim.Native.Nat.{ℕ, zero, suc, _+_, _*_, _-_}
 use mathlib.Core.Bool.{Bool, true, false, cond}
 use mathlib.Core.List.{List, [], _∷_, _++_}
 use lib.ListN.{length, getD, drop, set, replicate}
-use lib.IntN.{ℤ, pos}
 use lib.Dec.{leb, ltb}
-use Rattle.model.specs.Limits.{variables}
 use Rattle.model.specs.Commands.{blank}
-use Rattle.model.specs.Execution.{does, callOf}
+use Rattle.model.specs.Execution.{begun, does, callOf}
 use Rattle.model.specs.Job.{Job}
 use Rattle.model.specs.declared.Entry.{Entry}
 use Rattle.model.specs.declared.Entry.the-variants.{Absent, Number}
@@ -244,9 +242,9 @@ unfoldable pub run : List Key → List Command → ℕ → State → List Level 
 run ks cs room s [] = settle ks (verdict ks cs room [] s) s (ended ks LettersUsed s)
 run ks cs room s (l ∷ ls) = let o = run ks cs room (turn ks cs l s) ls in settle ks (verdict ks cs room (l ∷ ls) s) s o
 
--- "Each execution has its place and eight variables, all 0 at first."; "All fields are absent at first."
+-- "All fields are absent at first."
 unfoldable pub fresh : List Key → Process
-fresh ks = record { execution = record { place = 0; vars = replicate variables (pos 0); calls = 0 }; fields = replicate (length ks) Absent }
+fresh ks = record { execution = begun; fields = replicate (length ks) Absent }
 
 -- the model's first state
 unfoldable pub initial : List Key → List (List Entry) → State

@@ -1,7 +1,7 @@
 // The plain data of the confidential run. What it means is in specs/.
 ghost use mathlib.Core.Path.{_≡_};
 ghost use Prim.Native.Nat.{_<_};
-ghost use Rattle.model.specs.Execution.{afterOf};
+ghost use Rattle.model.specs.Execution.{begun as Execution·begun, afterOf, calledOf};
 
 // What the arrays hold at the most. The limits of a sheet stand apart from these, in specs/Limits.antt.
 pub const KEY_CAPACITY: usize = 8;
@@ -89,6 +89,27 @@ pub struct Execution {
 }
 
 impl Execution {
+    // The record at first: all 0.
+    pub fn begun() -> Execution
+        ensures { λ r. ⌜ r ≡ Execution·begun ⌝ }
+    {
+        Execution {
+            place: 0,
+            vars: [0i32; 8],
+            calls: 0,
+        }
+    }
+
+    // The next record after a call.
+    pub fn called(mut self) -> Execution
+        requires { ⌜ (self .place < 4294967296) × (self .calls < 4294967296) ⌝ }
+        ensures { λ r. ⌜ r ≡ calledOf self ⌝ }
+    {
+        self.place = self.place + 1;
+        self.calls = self.calls + 1;
+        self
+    }
+
     // The next record: the variable v has the value, the execution goes on at the place, and has made so many calls.
     pub fn after(mut self, v: usize, value: i32, place: usize, calls: usize) -> Execution
         requires { ⌜ v < 8 ⌝ }
