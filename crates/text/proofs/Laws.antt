@@ -55,7 +55,7 @@ nonzero : (t : Bool) (x y : ℕ) → (x ≡ 0 → ⊥) → (y ≡ 0 → ⊥) →
 nonzero true x y f g e = f e
 nonzero false x y f g e = g e
 
-and-both : (p q : Bool) → p && q ≡ true → (p ≡ true) × (q ≡ true)
+pub and-both : (p q : Bool) → p && q ≡ true → (p ≡ true) × (q ≡ true)
 and-both true q e = (refl, e)
 and-both false q e = absurd (let z : _≡_ {A = ℕ} 0 1 = ap (λ (b : Bool). cond b 1 0) e in omega arith)
 
@@ -77,6 +77,11 @@ class-digit b e = go (between 48 57 b) refl
         (nonzero (between 65 90 b) 8 _ (omega arith)
         (nonzero (between 32 126 b) 9 10 (omega arith) (omega arith)))))))))
         (rw p at e))
+
+-- and a digit is of class 0
+pub digit-class : (b : ℕ) → 48 ≤ b → b ≤ 57 → classOf b ≡ 0
+unfolding classOf
+digit-class b h l = rw (le-leb 48 b h, le-leb b 57 l)
 
 -- digits: a byte more, a byte that is none, the end, and a value that is past the limit already
 pub digits-next : (m a : ℕ) (s : List ℕ) (i : ℕ) → i < length s → classOf (getD s i 0) ≡ 0

@@ -20,7 +20,7 @@ wrong : true ≡ false → ⊥
 wrong e = let z : _≡_ {A = ℕ} 0 1 = cc in omega arith
 
 -- the lines of a text
-split-last : (c : ℕ) (t : List ℕ) → length t ≤ find c t → split c t ≡ t ∷ []
+pub split-last : (c : ℕ) (t : List ℕ) → length t ≤ find c t → split c t ≡ t ∷ []
 unfolding split find
 split-last c [] h = refl
 split-last c (b ∷ bs) h = go (eqb b c) (λ g. split-last c bs g) h
@@ -29,7 +29,7 @@ split-last c (b ∷ bs) h = go (eqb b c) (λ g. split-last c bs g) h
     go true i h = absurd (omega arith)
     go false i h = rw (i (omega arith))
 
-split-more : (c : ℕ) (t : List ℕ) → find c t < length t → split c t ≡ take (find c t) t ∷ split c (drop (suc (find c t)) t)
+pub split-more : (c : ℕ) (t : List ℕ) → find c t < length t → split c t ≡ take (find c t) t ∷ split c (drop (suc (find c t)) t)
 unfolding split find
 split-more c [] h = absurd (omega arith)
 split-more c (b ∷ bs) h = go (eqb b c) (λ g. split-more c bs g) h
@@ -40,7 +40,7 @@ split-more c (b ∷ bs) h = go (eqb b c) (λ g. split-more c bs g) h
     go true i h = refl
     go false i h = rw (i (omega arith))
 
-split-some : (c : ℕ) (t : List ℕ) → (p : List ℕ) × (ps : List (List ℕ)) × (split c t ≡ p ∷ ps)
+pub split-some : (c : ℕ) (t : List ℕ) → (p : List ℕ) × (ps : List (List ℕ)) × (split c t ≡ p ∷ ps)
 unfolding split
 split-some c [] = ([], [], refl)
 split-some c (b ∷ bs) = go (eqb b c) (split c bs)
@@ -90,7 +90,7 @@ find-past c (b ∷ bs) u h = go (eqb b c) (λ g. find-past c bs u g) h
     go true i e = absurd (wrong (sym e))
     go false i e = let j = i e in omega arith
 
-same-refl : (w : List ℕ) → same w w ≡ true
+pub same-refl : (w : List ℕ) → same w w ≡ true
 unfolding same
 same-refl [] = refl
 same-refl (b ∷ bs) = rw (eq-eqb b b refl) (same-refl bs)

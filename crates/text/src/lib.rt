@@ -1,6 +1,7 @@
 // Bytes and numbers of a sheet.
 //
-// A table that is indexed inside a loop would be built again at every turn of it, so the two loops that look classes up take the table into a local first.
+// A table that is indexed inside a loop would be built again at every turn of it, so the loop over the whole sheet takes the table into a local first, and
+// the digits of a number, which are few, are told by their range.
 mod classes;
 
 use classes::CLASSES;
@@ -118,13 +119,14 @@ fn digits_up_to(s: &[u8], m: u64) -> Natural
     requires { ⌜ m < 4294967296 ⌝ }
     ensures { λ r. ⌜ naturalAs r ≡ digitsTo m 0 (now (s .entry)) ⌝ }
 {
-    let table = CLASSES;
     let mut a: u64 = 0;
     let mut i = 0;
     while i < s.len() {
         let b = s[i];
-        let class = table[b as usize];
-        if class != 0 {
+        if b < 48 {
+            return Natural::Unfit;
+        }
+        if 57 < b {
             return Natural::Unfit;
         }
         a = a * 10 + wide(b - 48);

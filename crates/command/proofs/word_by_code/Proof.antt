@@ -1,0 +1,30 @@
+-- Each number of the match is that of a word of the table; any other is none of them.
+use Rattle.model.specs.Bytes.{bytes}
+use Rattle.model.specs.Commands.{table}
+use Rattle.command.specs.Code.{packed, counted, codeOf, lookupCode}
+use Rattle.command.proofs.Words.{no-code}
+use mathlib.Core.Path.{sym, ap}
+use Rattle.command.proofs.word_by_code.Statement.{statement}
+use Rattle.command.proofs.word_by_code.Tie as tie
+
+pub word-by-code-spec : {M : Type 1} → statement M
+unfolding lookupCode table bytes codeOf counted packed
+word-by-code-spec =
+    tie.close
+    (tie.spec
+    (λ c. sym (ap (lookupCode table) (c .match .keys1)))
+    (λ c. sym (ap (lookupCode table) (c .match .keys2)))
+    (λ c. sym (ap (lookupCode table) (c .match .keys3)))
+    (λ c. sym (ap (lookupCode table) (c .match .keys4)))
+    (λ c. sym (ap (lookupCode table) (c .match .keys5)))
+    (λ c. sym (ap (lookupCode table) (c .match .keys6)))
+    (λ c. sym (ap (lookupCode table) (c .match .keys7)))
+    (λ c. sym (ap (lookupCode table) (c .match .keys8)))
+    (λ c. sym (ap (lookupCode table) (c .match .keys9)))
+    (λ c. sym (ap (lookupCode table) (c .match .keys10)))
+    (λ c. sym (ap (lookupCode table) (c .match .keys11)))
+    (λ c. sym (ap (lookupCode table) (c .match .keys12)))
+    (λ c. sym (ap (lookupCode table) (c .match .keys13)))
+    (λ c. sym (ap (lookupCode table) (c .match .keys14)))
+    (λ c. sym (ap (lookupCode table) (c .match .keys15)))
+    (λ c. let r = c .match .rest in sym (no-code _ (r .0 .0 .0 .0 .0 .0 .0 .0 .0 .0 .0 .0 .0 .0 .1) (r .0 .0 .0 .0 .0 .0 .0 .0 .0 .0 .0 .0 .0 .1) (r .0 .0 .0 .0 .0 .0 .0 .0 .0 .0 .0 .0 .1) (r .0 .0 .0 .0 .0 .0 .0 .0 .0 .0 .0 .1) (r .0 .0 .0 .0 .0 .0 .0 .0 .0 .0 .1) (r .0 .0 .0 .0 .0 .0 .0 .0 .0 .1) (r .0 .0 .0 .0 .0 .0 .0 .0 .1) (r .0 .0 .0 .0 .0 .0 .0 .1) (r .0 .0 .0 .0 .0 .0 .1) (r .0 .0 .0 .0 .0 .1) (r .0 .0 .0 .0 .1) (r .0 .0 .0 .1) (r .0 .0 .1) (r .0 .1) (r .1))))
