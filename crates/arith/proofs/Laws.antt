@@ -1,7 +1,7 @@
 -- Bounds on the integers that the machine's signed operations ask, what `clamp` is in each of its cases, and one law for
 -- every operation that is done at `i64` and clamped. Assumes nothing.
 use mathlib.Core.Path.{_≡_, refl, sym, ap, subst, _∙_}
-use mathlib.Core.Bool.{Bool, true, false, not, cond}
+use mathlib.Core.Bool.{Bool, true, false, not, cond, true≢false}
 use Prim.Native.Nat.{ℕ, zero, suc, _+_, _-_, _*_, _/_, _^_, _≤_, _<_}
 use native.Mathlib.Nat.{mul-le-mul, div-le-self, le-refl, le-suc, le-trans, lt-of-le-of-lt}
 use native.Mathlib.Omega.{arith}
@@ -110,9 +110,6 @@ pub in-fits : (z : ℤ) → ltZ z least ≡ false → ltZ greatest z ≡ false �
 in-fits (pos n) h k = record { sfits = omega (arith, ltb-false 2147483647 n k) }
 in-fits (negsuc n) h k = record { sfits = omega (arith, ltb-false 2147483647 n h) }
 
-true-false : true ≡ false → ⊥
-true-false e = subst T e tt
-
 -- a divisor's bits are 0 where it is 0, and only there
 pub bits-zero : (b : ℤ) → SFits w32 b → ofZ w32 b ≡ 0 → isZero b ≡ true
 bits-zero (pos zero) f e = refl
@@ -125,7 +122,7 @@ bits-nonzero (pos (suc n)) h = refl
 bits-nonzero (negsuc n) h = refl
 
 pub wide-bits : (b : ℤ) → SFits w32 b → isZero b ≡ false → 0 < ofZ w64 b
-wide-bits (pos zero) f e = absurd (true-false e)
+wide-bits (pos zero) f e = absurd (true≢false e)
 wide-bits (pos (suc n)) f e = omega arith
 wide-bits (negsuc n) f e = omega arith
 

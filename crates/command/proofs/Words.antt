@@ -1,6 +1,6 @@
 -- A word's number tells it from every other word, so that the table may be asked by it.
 use mathlib.Core.Path.{_≡_, refl, sym, ap, _∙_}
-use mathlib.Core.Bool.{Bool, true, false, cond, _&&_}
+use mathlib.Core.Bool.{Bool, true, false, cond, _&&_, true≢false}
 use mathlib.Core.List.{List, [], _∷_, _++_}
 use Prim.Native.Nat.{ℕ, zero, suc, _+_, _*_, _%_, _<_, _≤_}
 use native.Mathlib.Numerals.{add-one}
@@ -112,14 +112,11 @@ code-eq w u f s e = go (decLt 7 (length w))
 
 -- ---- The same as a test
 
-differ : true ≡ false → ⊥
-differ e = let z : _≡_ {A = ℕ} 0 1 = cc in omega arith
-
 same-eq : (w u : List ℕ) → same w u ≡ true → w ≡ u
 unfolding same
 same-eq [] [] e = refl
-same-eq [] (y ∷ u) e = absurd (differ (sym e))
-same-eq (x ∷ w) [] e = absurd (differ (sym e))
+same-eq [] (y ∷ u) e = absurd (true≢false (sym e))
+same-eq (x ∷ w) [] e = absurd (true≢false (sym e))
 same-eq (x ∷ w) (y ∷ u) e = let b = and-both (eqb x y) (same w u) e in cc (eqb-true x y (b .0), same-eq w u (b .1))
 
 code-same : (w u : List ℕ) → Bytes w → Short u → eqb (codeOf w) (codeOf u) ≡ same w u
@@ -127,7 +124,7 @@ code-same w u f s = go (same w u) refl
   where
     go : (t : Bool) → same w u ≡ t → eqb (codeOf w) (codeOf u) ≡ t
     go true p = eq-eqb _ _ (ap codeOf (same-eq w u p))
-    go false p = ne-eqb _ _ (λ e. differ (sym (same-refl w) ∙ ap (same w) (code-eq w u f s e) ∙ p))
+    go false p = ne-eqb _ _ (λ e. true≢false (sym (same-refl w) ∙ ap (same w) (code-eq w u f s e) ∙ p))
 
 -- ---- The table's words are short: one computed test
 

@@ -42,7 +42,7 @@ none = record { low = Absent; high = Absent }
 abbrev pub openSlot : KeySlot
 openSlot = record { key = Open }
 
-columns-length : (i : ℕ) (ks : List Key) (f : Level → List Entry) → length (columns i ks f) ≡ length ks
+pub columns-length : (i : ℕ) (ks : List Key) (f : Level → List Entry) → length (columns i ks f) ≡ length ks
 unfolding columns
 columns-length i [] f = refl
 columns-length i (k ∷ ks) f = ap suc (columns-length (suc i) ks f)

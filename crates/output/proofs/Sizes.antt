@@ -1,6 +1,6 @@
 -- The sign and the size of a number of the range, as the machine finds them.
 use mathlib.Core.Path.{_≡_, refl, sym, ap, subst, _∙_}
-use mathlib.Core.Bool.{Bool, true, false}
+use mathlib.Core.Bool.{Bool, true, false, true≢false}
 use Prim.Native.Nat.{ℕ, zero, suc, _+_, _<_, _≤_, _^_}
 use native.Mathlib.Omega.{arith}
 use lib.Dec.{T}
@@ -13,9 +13,6 @@ use mir.Facts.{toZ-ofZ, fits-natAbs}
 use Rattle.arith.proofs.Laws.{wide, widened, mag-neg}
 use Rattle.model.specs.Output.{sign}
 
-true-false : true ≡ false → ⊥
-true-false e = subst T e tt
-
 pub sign-neg : (z : ℤ) → ltZ z (pos 0) ≡ true → 45 ≡ sign z
 unfolding sign
 sign-neg (pos n) e = absurd (omega (arith, ltb-true n 0 e))
@@ -24,11 +21,11 @@ sign-neg (negsuc n) e = refl
 pub sign-pos : (z : ℤ) → ltZ z (pos 0) ≡ false → 43 ≡ sign z
 unfolding sign
 sign-pos (pos n) e = refl
-sign-pos (negsuc n) e = absurd (true-false e)
+sign-pos (negsuc n) e = absurd (true≢false e)
 
 pub notneg : (z : ℤ) → ltZ z (pos 0) ≡ false → T (nonNeg z)
 notneg (pos n) e = tt
-notneg (negsuc n) e = absurd (true-false e)
+notneg (negsuc n) e = absurd (true≢false e)
 
 neg-notneg : (z : ℤ) → ltZ z (pos 0) ≡ true → T (nonNeg (negℤ z))
 neg-notneg (pos n) e = absurd (omega (arith, ltb-true n 0 e))

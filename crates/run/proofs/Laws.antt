@@ -1,7 +1,7 @@
 -- What a loop over the letters keeps of the model's run, one law for each kind of turn, over plain variables.
 use Prim.Native.Nat.{ℕ, zero, suc, _+_, _-_, _*_, _<_, _≤_}
 use mathlib.Core.Path.{_≡_, refl, sym, ap, ap₂, subst, _∙_}
-use mathlib.Core.Bool.{Bool, true, false, cond}
+use mathlib.Core.Bool.{Bool, true, false, cond, true≢false}
 use mathlib.Core.List.{List, [], _∷_, _++_, map}
 use native.Mathlib.Numerals.{add-one}
 use native.Mathlib.Nat.{add-zero}
@@ -34,6 +34,7 @@ use Rattle.model.specs.declared.Op.the-variants.{Set, Add, Sub, Mul, Div, Read,
 use Rattle.model.specs.declared.Stepped.{Stepped}
 use Rattle.model.specs.declared.Verdict.{Verdict}
 use Rattle.model.specs.declared.Verdict.the-variants.{GoesOn, Ends}
+use Rattle.execution.proofs.Laws.{effect-calls, effect-does}
 use Rattle.turn.specs.Turn.{shortBy, lacksRoom, waitsBy, idlesBy}
 
 -- a state of the model, from its parts
@@ -76,9 +77,6 @@ call-step n c x L h =
     ap (stored (record { execution = x; fields = L }) (c .k)) (call-does (c .op) n c x (getD L (c .k) Absent) h)
     ∙ ap (λ (l : List Entry). record { execution = calledOf x; fields = l }) (set-getD L (c .k) Absent)
 
-true-false : true ≡ false → ⊥
-true-false e = let z : _≡_ {A = ℕ} 0 1 = cc in omega arith
-
 -- two kinds of call are not one
 isNeither : Call → Bool
 isNeither Neither = true
@@ -87,11 +85,11 @@ isNeither Sends = false
 
 pub receives-call : {k : Call} → k ≡ Receives → k ≡ Neither → ⊥
 unfolding isNeither
-receives-call e f = true-false (ap isNeither (sym f ∙ e))
+receives-call e f = true≢false (ap isNeither (sym f ∙ e))
 
 pub sends-call : {k : Call} → k ≡ Sends → k ≡ Neither → ⊥
 unfolding isNeither
-sends-call e f = true-false (ap isNeither (sym f ∙ e))
+sends-call e f = true≢false (ap isNeither (sym f ∙ e))
 
 -- ---- Where a command goes
 
@@ -116,31 +114,15 @@ place-by Receive n c x e h t = omega arith
 place-by Send n c x e h t = omega arith
 place-by Stop n c x e h t = omega arith
 
-calls-by : (o : Op) (n : ℕ) (c : Command) (x : Execution) (e : Entry) → doesBy o n c (variable x (c .v)) (variable x (c .w)) x e .execution .calls ≤ x .calls + 1
-calls-by Set n c x e = omega arith
-calls-by Add n c x e = omega arith
-calls-by Sub n c x e = omega arith
-calls-by Mul n c x e = omega arith
-calls-by Div n c x e = omega arith
-calls-by Read n c x e = omega arith
-calls-by Has n c x e = omega arith
-calls-by Put n c x e = omega arith
-calls-by Drop n c x e = omega arith
-calls-by IfNeg n c x e = omega arith
-calls-by IfZero n c x e = omega arith
-calls-by Jump n c x e = omega arith
-calls-by Receive n c x e = omega arith
-calls-by Send n c x e = omega arith
-calls-by Stop n c x e = omega arith
-
 module _ (n : ℕ) (c : Command) (x : Execution) (e : Entry) (r : Stepped) (is : r ≡ does n c x e) where
   place-after : x .place < n → c .t ≤ n → r .execution .place ≤ n
   unfolding does
   place-after h t = subst (λ (z : Stepped). z .execution .place ≤ n) (sym is) (place-by (c .op) n c x e h t)
 
   calls-after : r .execution .calls ≤ x .calls + 1
-  unfolding does
-  calls-after = subst (λ (z : Stepped). z .execution .calls ≤ x .calls + 1) (sym is) (calls-by (c .op) n c x e)
+  calls-after =
+      subst (λ (z : Stepped). z .execution .calls ≤ x .calls + 1) (effect-does c x e n ∙ sym is)
+      (omega (arith, effect-calls (c .op) c (x .place) (variable x (c .v)) (variable x (c .w)) e n))
 
 -- ---- The loop
 
@@ -299,11 +281,11 @@ module _ (ks : List Key) (cs : List Command) (room : ℕ) (ms : List (List Entry
         idle : (a b : Bool) (p q : Process) → cond a true b ≡ true → cond a p (cond b p q) ≡ p
         idle true b p q e = refl
         idle false true p q e = refl
-        idle false false p q e = absurd (true-false (sym e))
+        idle false false p q e = absurd (true≢false (sym e))
 
         moves : (a b : Bool) (p q : Process) → cond a true b ≡ false → cond a p (cond b p q) ≡ q
-        moves true b p q e = absurd (true-false e)
-        moves false true p q e = absurd (true-false e)
+        moves true b p q e = absurd (true≢false e)
+        moves false true p q e = absurd (true≢false e)
         moves false false p q e = refl
 
         pub after-idle : idlesBy (leb (length cs) (high .place)) (callOf (commandAt cs (high .place) .op)) (low .calls) (high .calls) ≡ true

@@ -22,6 +22,7 @@ use Rattle.model.specs.declared.Level.the-variants.{Low, High}
 use Rattle.output.specs.Placed.{placed}
 use Rattle.output.specs.Views.{lineOf}
 use Rattle.output.proofs.Places.{placed-nil, placed-append}
+use Rattle.output.proofs.Laws.{columns-length}
 use Rattle.run.specs.Ready.{left}
 use Rattle.run.proofs.Laws.{stateOf, Runs, begins, ends}
 
@@ -39,11 +40,6 @@ columns-alike : (i : ℕ) (ks : List Key) (f g : Level → List Entry) → ((l :
 unfolding columns
 columns-alike i [] f g e = refl
 columns-alike i (k ∷ ks) f g e = ap₂ (λ (x : Entry) (xs : List Entry). x ∷ xs) (ap (λ (l : List Entry). getD l i Absent) (e (source k))) (columns-alike (suc i) ks f g e)
-
-columns-length : (i : ℕ) (ks : List Key) (f : Level → List Entry) → length (columns i ks f) ≡ length ks
-unfolding columns
-columns-length i [] f = refl
-columns-length i (k ∷ ks) f = ap suc (columns-length (suc i) ks f)
 
 pub line-is : (ks : List Key) → lineLength ks ≡ 10 + 12 * length ks
 unfolding lineLength

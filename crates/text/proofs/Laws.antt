@@ -1,7 +1,7 @@
 -- Laws of the definitions on bytes and numbers, in the form in which a loop over a slice meets them: at a place i of the list s.
 use mathlib.Core.Path.{_≡_, refl, sym, ap, _∙_}
 use mathlib.Core.List.{List, [], _∷_}
-use mathlib.Core.Bool.{Bool, true, false, cond, _&&_}
+use mathlib.Core.Bool.{Bool, true, false, cond, _&&_, true≢false}
 use Prim.Native.Nat.{ℕ, suc, _+_, _-_, _*_, _<_, _≤_, pred}
 use native.Mathlib.Numerals.{add-one}
 use native.Mathlib.Omega.{arith}
@@ -243,18 +243,15 @@ module _ (p t : List ℕ) (i : ℕ) where
     unfolding starts
     starts-differ e = rw (uncons p i h, uncons t i l, ne-eqb _ _ e)
 
-wrong : true ≡ false → ⊥
-wrong e = let z : _≡_ {A = ℕ} 0 1 = cc in omega arith
-
 pub starts-length : (p t : List ℕ) → starts p t ≡ true → length p ≤ length t
 unfolding starts
 starts-length [] t h = omega arith
-starts-length (x ∷ xs) [] h = absurd (wrong (sym h))
+starts-length (x ∷ xs) [] h = absurd (true≢false (sym h))
 starts-length (x ∷ xs) (b ∷ bs) h = go (eqb b x) (λ g. starts-length xs bs g) h
   where
     go : (y : Bool) → (starts xs bs ≡ true → length xs ≤ length bs) → cond y (starts xs bs) false ≡ true → suc (length xs) ≤ suc (length bs)
     go true i e = let j = i e in omega arith
-    go false i e = absurd (wrong (sym e))
+    go false i e = absurd (true≢false (sym e))
 
 pub starts-short : (p t : List ℕ) → length t < length p → starts p t ≡ false
 starts-short p t h = go (starts p t) refl

@@ -1,6 +1,6 @@
 -- The lines of a text, and the phases over them, as a loop over a text meets them.
 use mathlib.Core.Path.{_≡_, refl, sym, ap, _∙_}
-use mathlib.Core.Bool.{Bool, true, false, cond}
+use mathlib.Core.Bool.{Bool, true, false, cond, true≢false}
 use mathlib.Core.List.{List, [], _∷_, _++_, append-assoc}
 use Prim.Native.Nat.{ℕ, zero, suc, _+_, _-_, _<_, _≤_}
 use native.Mathlib.Numerals.{add-one}
@@ -15,9 +15,6 @@ use Rattle.model.specs.Bytes.{find, divide, split, grow, lines, init, same}
 use Rattle.text.specs.Prefix.{starts, free}
 use Rattle.text.proofs.Laws.{starts-length}
 use Rattle.model.specs.Phase.{Phase, done, stopped, after, one, many, oneMore, eachLine, onward, numbered}
-
-wrong : true ≡ false → ⊥
-wrong e = let z : _≡_ {A = ℕ} 0 1 = cc in omega arith
 
 -- the lines of a text
 pub split-last : (c : ℕ) (t : List ℕ) → length t ≤ find c t → split c t ≡ t ∷ []
@@ -62,16 +59,16 @@ lines-more t h = let k = split-some 10 (drop (suc (find 10 t)) t) in rw (split-m
 pub starts-split : (p t : List ℕ) → starts p t ≡ true → t ≡ p ++ drop (length p) t
 unfolding starts
 starts-split [] t h = refl
-starts-split (x ∷ xs) [] h = absurd (wrong (sym h))
+starts-split (x ∷ xs) [] h = absurd (true≢false (sym h))
 starts-split (x ∷ xs) (b ∷ bs) h = go (eqb b x) refl (λ g. starts-split xs bs g) h
   where
     go : (y : Bool) → eqb b x ≡ y → (starts xs bs ≡ true → bs ≡ xs ++ drop (length xs) bs) → cond y (starts xs bs) false ≡ true → b ∷ bs ≡ x ∷ (xs ++ drop (length xs) bs)
     go true q i e = let k = i e in let j = eqb-true b x q in cc
-    go false q i e = absurd (wrong (sym e))
+    go false q i e = absurd (true≢false (sym e))
 
 starts-take : (p t : List ℕ) (e : ℕ) → starts p t ≡ false → starts p (take e t) ≡ false
 unfolding starts
-starts-take [] t e h = absurd (wrong h)
+starts-take [] t e h = absurd (true≢false h)
 starts-take (x ∷ xs) [] zero h = refl
 starts-take (x ∷ xs) [] (suc e) h = refl
 starts-take (x ∷ xs) (b ∷ bs) zero h = refl
@@ -87,7 +84,7 @@ find-past c [] u h = omega arith
 find-past c (b ∷ bs) u h = go (eqb b c) (λ g. find-past c bs u g) h
   where
     go : (y : Bool) → (free c bs ≡ true → find c (bs ++ u) ≡ length bs + find c u) → cond y false (free c bs) ≡ true → cond y 0 (suc (find c (bs ++ u))) ≡ suc (length bs) + find c u
-    go true i e = absurd (wrong (sym e))
+    go true i e = absurd (true≢false (sym e))
     go false i e = let j = i e in omega arith
 
 pub same-refl : (w : List ℕ) → same w w ≡ true
@@ -122,7 +119,7 @@ other [] (b ∷ bs) f h = go (eqb b 61) h
   where
     go : (y : Bool) → cond y true false ≡ false
         → cond (ltb (cond y 0 (suc (find 61 bs))) (suc (length bs))) (same (take (cond y 0 (suc (find 61 bs))) (b ∷ bs)) []) false ≡ false
-    go true g = absurd (wrong g)
+    go true g = absurd (true≢false g)
     go false g = flat (ltb (suc (find 61 bs)) (suc (length bs)))
       where
         flat : (z : Bool) → cond z false false ≡ false
@@ -136,7 +133,7 @@ other (x ∷ xs) (b ∷ bs) f h = go (eqb b 61) refl (eqb b x) refl (λ u v. oth
     flat false = refl
 
     tail : (z : Bool) → cond z false (free 61 xs) ≡ true → free 61 xs ≡ true
-    tail true e = absurd (wrong (sym e))
+    tail true e = absurd (true≢false (sym e))
     tail false e = e
 
     go : (y : Bool) → eqb b 61 ≡ y → (z : Bool) → eqb b x ≡ z
