@@ -1,20 +1,18 @@
--- The lines of a text, and the phases over them, as a loop over a text meets them.
+-- The lines of a text, as a loop over a text meets them.
 use mathlib.Core.Path.{_≡_, refl, sym, ap, _∙_}
 use mathlib.Core.Bool.{Bool, true, false, cond, true≢false}
 use mathlib.Core.List.{List, [], _∷_, _++_, append-assoc}
 use Prim.Native.Nat.{ℕ, zero, suc, _+_, _-_, _<_, _≤_}
-use native.Mathlib.Numerals.{add-one}
 use native.Mathlib.Omega.{arith}
 use native.Mathlib.Decide.{decLt}
 use lib.Dec.{eqb, ltb}
-use lib.ListN.{length, take, drop, length-append, length-drop}
-use lib.Seq.{take-append-add, drop-append-add, take-append-seam, drop-append-seam, drop-drop}
-use borrow.Author.Tests.{eq-eqb, ne-eqb, eqb-true, lt-ltb, le-ltb}
-use Rattle.model.specs.Parsed.{Parsed, ok, bad, need, _>>=_, _>>_}
+use lib.ListN.{length, take, drop, length-append}
+use lib.Seq.{take-append-add, drop-append-add, take-append-seam}
+use borrow.Author.Tests.{eq-eqb, eqb-true, lt-ltb, le-ltb}
+use Rattle.model.specs.Parsed.{Parsed, ok, bad}
 use Rattle.model.specs.Bytes.{find, divide, split, grow, lines, init, same}
 use Rattle.text.specs.Prefix.{starts, free}
-use Rattle.text.proofs.Laws.{starts-length}
-use Rattle.model.specs.Phase.{Phase, done, stopped, after, one, many, oneMore, eachLine, onward, numbered}
+use Rattle.model.specs.Phase.{after, oneMore}
 
 -- the lines of a text
 pub split-last : (c : ℕ) (t : List ℕ) → length t ≤ find c t → split c t ≡ t ∷ []
@@ -66,7 +64,7 @@ starts-split (x ∷ xs) (b ∷ bs) h = go (eqb b x) refl (λ g. starts-split xs 
     go true q i e = let k = i e in let j = eqb-true b x q in cc
     go false q i e = absurd (true≢false (sym e))
 
-starts-take : (p t : List ℕ) (e : ℕ) → starts p t ≡ false → starts p (take e t) ≡ false
+pub starts-take : (p t : List ℕ) (e : ℕ) → starts p t ≡ false → starts p (take e t) ≡ false
 unfolding starts
 starts-take [] t e h = absurd (true≢false h)
 starts-take (x ∷ xs) [] zero h = refl
@@ -92,7 +90,7 @@ unfolding same
 same-refl [] = refl
 same-refl (b ∷ bs) = rw (eq-eqb b b refl) (same-refl bs)
 
-after-named : (w v : List ℕ) → free 61 w ≡ true → after w ((w ++ (61 ∷ [])) ++ v) ≡ ok v
+pub after-named : (w v : List ℕ) → free 61 w ≡ true → after w ((w ++ (61 ∷ [])) ++ v) ≡ ok v
 unfolding after divide find
 after-named w v h =
     let f : find 61 (w ++ (61 ∷ v)) ≡ length w = find-past 61 w (61 ∷ v) h ∙ omega arith in
@@ -144,7 +142,7 @@ other (x ∷ xs) (b ∷ bs) f h = go (eqb b 61) refl (eqb b x) refl (λ u v. oth
     go false q true p i g = rw (p, ltb-suc (find 61 bs) (length bs)) (i (tail (eqb x 61) f) g)
     go false q false p i g = rw p (flat (ltb (suc (find 61 bs)) (suc (length bs))))
 
-after-other : (w l : List ℕ) → free 61 w ≡ true → starts (w ++ (61 ∷ [])) l ≡ false → after w l ≡ bad 3
+pub after-other : (w l : List ℕ) → free 61 w ≡ true → starts (w ++ (61 ∷ [])) l ≡ false → after w l ≡ bad 3
 unfolding after divide named
 after-other w l f h = go (decLt (find 61 l) (length l)) (other w l f h)
   where
@@ -181,55 +179,12 @@ module _ (w t : List ℕ) (f : free 61 w ≡ true) (g : free 10 (w ++ (61 ∷ []
         let y : drop (length (w ++ (61 ∷ [])) + (e + 1)) t ≡ drop (e + 1) u = ap (drop (length (w ++ (61 ∷ [])) + (e + 1))) whole ∙ drop-append-add (w ++ (61 ∷ [])) u (e + 1) in
         rw (lines-more t m, p, k, x, y)
 
-  -- the phase ends at a text that does not start so
-  pub many-leaves : {A : Type 0} (F : A → List ℕ → Parsed A) (n : ℕ) (a : A) → starts (w ++ (61 ∷ [])) t ≡ false → many w F n a (lines t) ≡ done a n (lines t)
-  unfolding many
-  many-leaves F n a h = go (decLt (find 10 t) (length t))
-    where
-      go : Dec (find 10 t < length t) → many w F n a (lines t) ≡ done a n (lines t)
-      go (yes l) = let k = after-other w (take (find 10 t) t) f (starts-take (w ++ (61 ∷ [])) t (find 10 t) h) in rw (lines-more t l, k)
-      go (no l) = let m : length t ≤ find 10 t = omega arith in rw (lines-none t m)
-
 -- a name w, as the code compares it: with its equals sign, k bytes
 pub record Word (w p : List ℕ) (k : ℕ) : Type 0 where
   pub sign : p ≡ w ++ (61 ∷ [])
   pub long : k ≡ length w + 1
   pub no-sign : free 61 w ≡ true
   pub no-feed : free 10 (w ++ (61 ∷ [])) ≡ true
-
-pub word-fits : {w p : List ℕ} {k : ℕ} (W : Word w p k) (t : List ℕ) → starts p t ≡ true → k ≤ length t
-word-fits {w} {p} {k} W t h = let l = starts-length p t h in let z = ap length (W .sign) ∙ length-append w (61 ∷ []) in let y = W .long in omega arith
-
--- one turn of a phase over the lines of s: t is what is left of s from a on, u what follows the name there, and e the place of its first line feed
-module _ {A : Type 0} {w p : List ℕ} {k : ℕ} (W : Word w p k) (F : A → List ℕ → Parsed A) (n : ℕ) (x : A) (s t : List ℕ) (a : ℕ) (g : t ≡ drop a s) where
-  pub turn-leaves : starts p t ≡ false → many w F n x (lines (drop a s)) ≡ done x n (lines (drop a s))
-  turn-leaves h = rw (← g) (many-leaves w t (W .no-sign) (W .no-feed) F n x (rw (W .sign) at h))
-
-  module _ (h : starts p t ≡ true) (u : List ℕ) (d : u ≡ drop k t) (e : ℕ) (q : e ≡ find 10 u) where
-    starts-w : starts (w ++ (61 ∷ [])) t ≡ true
-    starts-w = rw (W .sign) at h
-
-    rest-w : u ≡ drop (length w + 1) t
-    rest-w = d ∙ ap (λ m. drop m t) (W .long)
-
-    pub turn-short : length u ≤ e → many w F n x (lines (drop a s)) ≡ done x n (lines (drop a s))
-    unfolding many
-    turn-short l = rw (← g, line-none w t (W .no-sign) (W .no-feed) starts-w u rest-w e q l)
-
-    module _ (l : e < length u) where
-      first : lines (drop a s) ≡ ((w ++ (61 ∷ [])) ++ take e u) ∷ lines (drop (a + k + e + 1) s)
-      first =
-          let m : a + k + e + 1 ≡ a + (k + (e + 1)) = omega arith in
-          let y : drop (e + 1) u ≡ drop (a + (k + (e + 1))) s = ap (drop (e + 1)) d ∙ drop-drop (e + 1) k t ∙ ap (drop (k + (e + 1))) g ∙ drop-drop (k + (e + 1)) a s in
-          rw (m, ← y, ← g) (line-first w t (W .no-sign) (W .no-feed) starts-w u rest-w e q l)
-
-      pub turn-bad : (r : ℕ) → F x (take e u) ≡ bad r → many w F n x (lines (drop a s)) ≡ stopped r n
-      unfolding many
-      turn-bad r b = rw (first, after-named w (take e u) (W .no-sign), b)
-
-      pub turn-more : (y : A) → F x (take e u) ≡ ok y → many w F n x (lines (drop a s)) ≡ many w F (n + 1) y (lines (drop (a + k + e + 1) s))
-      unfolding many
-      turn-more y b = rw (first, after-named w (take e u) (W .no-sign), b)
 
 -- one line more, with a limit
 module _ {A : Type 0} (m : ℕ) (f : List ℕ → Parsed A) (cs : List A) (v : List ℕ) where
@@ -244,33 +199,3 @@ module _ {A : Type 0} (m : ℕ) (f : List ℕ → Parsed A) (cs : List A) (v : L
   pub more-ok : (c : A) → length cs < m → f v ≡ ok c → oneMore m f cs v ≡ ok (cs ++ (c ∷ []))
   unfolding oneMore
   more-ok c h b = rw (lt-ltb _ _ h, b)
-
--- a phase of one line, at the start of t
-module _ {A : Type 0} {w p : List ℕ} {k : ℕ} (W : Word w p k) (f : List ℕ → Parsed A) (n : ℕ) (t : List ℕ) where
-  pub one-other : starts p t ≡ false → one w f n (lines t) ≡ stopped 3 n
-  unfolding one
-  one-other h = go (decLt (find 10 t) (length t))
-    where
-      go : Dec (find 10 t < length t) → one w f n (lines t) ≡ stopped 3 n
-      go (yes l) = let k = after-other w (take (find 10 t) t) (W .no-sign) (starts-take (w ++ (61 ∷ [])) t (find 10 t) (rw (W .sign) at h)) in rw (lines-more t l, k)
-      go (no l) = let m : length t ≤ find 10 t = omega arith in rw (lines-none t m)
-
-  module _ (h : starts p t ≡ true) (u : List ℕ) (d : u ≡ drop k t) (e : ℕ) (q : e ≡ find 10 u) where
-    pub one-short : length u ≤ e → one w f n (lines t) ≡ stopped 3 n
-    unfolding one
-    one-short l = rw (line-none w t (W .no-sign) (W .no-feed) (rw (W .sign) at h) u (d ∙ ap (λ m. drop m t) (W .long)) e q l)
-
-    module _ (l : e < length u) where
-      only : lines t ≡ ((w ++ (61 ∷ [])) ++ take e u) ∷ lines (drop (k + e + 1) t)
-      only =
-          let m : k + e + 1 ≡ k + (e + 1) = omega arith in
-          let y : drop (e + 1) u ≡ drop (k + (e + 1)) t = ap (drop (e + 1)) d ∙ drop-drop (e + 1) k t in
-          rw (m, ← y) (line-first w t (W .no-sign) (W .no-feed) (rw (W .sign) at h) u (d ∙ ap (λ m. drop m t) (W .long)) e q l)
-
-      pub one-bad : (r : ℕ) → f (take e u) ≡ bad r → one w f n (lines t) ≡ stopped r n
-      unfolding one
-      one-bad r b = rw (only, after-named w (take e u) (W .no-sign), b)
-
-      pub one-ok : (y : A) → f (take e u) ≡ ok y → one w f n (lines t) ≡ done y (n + 1) (lines (drop (k + e + 1) t))
-      unfolding one
-      one-ok y b = rw (only, after-named w (take e u) (W .no-sign), b)

@@ -1,0 +1,176 @@
+-- Laws of the first line of a text, and of the phases that read one line or many.
+use mathlib.Core.Path.{_≡_, refl, sym, ap, _∙_, subst}
+use mathlib.Core.Bool.{Bool, true, false}
+use mathlib.Core.List.{List, [], _∷_, _++_, map, map-append}
+use Prim.Native.Nat.{ℕ, _+_, _-_, _<_, _≤_}
+use native.Mathlib.Decide.{decLt}
+use native.Mathlib.Numerals.{add-one}
+use native.Mathlib.Omega.{arith}
+use lib.Dec.{leb}
+use lib.ListN.{length, take, drop, set, length-drop, length-map}
+use lib.Seq.{drop-drop, take-suc-set, length-take-le}
+use borrow.Author.Tests.{leb-true}
+use Rattle.model.specs.Parsed.{Parsed, ok, bad, need, _>>=_, _>>_}
+use Rattle.model.specs.Bytes.{find, lines}
+use Rattle.model.specs.Number.{upTo, fromOne}
+use Rattle.model.specs.Phase.{done, stopped, after, one, many, oneMore, numbered, onward, eachLine}
+use Rattle.text.specs.Prefix.{starts}
+use Rattle.text.proofs.Laws.{up-to-bound}
+use Rattle.text.proofs.Lines.{Word, more-full, more-bad, more-ok, lines-none, lines-more, line-none, line-first, starts-take, after-named, after-other}
+use Rattle.lines.specs.Meaning.{beside, headed, foundAs, Placed, FirstLine, Reads}
+use Rattle.lines.specs.declared.Found.{Found}
+use Rattle.lines.specs.declared.Found.the-variants.{Until, Other}
+use Rattle.lines.specs.declared.Came.the-variants.{To, Refused}
+
+-- ---- The first line of the text t: where it starts with the name, u is what follows, and e the place of its first line feed
+
+module _ {w p : List ℕ} {k : ℕ} (W : Word w p k) (t : List ℕ) where
+  pub headed-other : starts p t ≡ false → headed w (lines t) ≡ bad 3
+  unfolding headed
+  headed-other h = go (decLt (find 10 t) (length t))
+    where
+      go : Dec (find 10 t < length t) → headed w (lines t) ≡ bad 3
+      go (yes l) = rw (lines-more t l, after-other w (take (find 10 t) t) (W .no-sign) (starts-take (w ++ (61 ∷ [])) t (find 10 t) (rw (W .sign) at h)))
+      go (no l) = let m : length t ≤ find 10 t = omega arith in rw (lines-none t m)
+
+  module _ (h : starts p t ≡ true) (u : List ℕ) (d : u ≡ drop k t) (e : ℕ) (q : e ≡ find 10 u) where
+    pub headed-short : length u ≤ e → headed w (lines t) ≡ bad 3
+    unfolding headed
+    headed-short l = rw (line-none w t (W .no-sign) (W .no-feed) (rw (W .sign) at h) u (d ∙ ap (λ m. drop m t) (W .long)) e q l)
+
+    pub headed-at : e < length u → headed w (lines t) ≡ foundAs k t (Until (k + e))
+    unfolding headed
+    headed-at l =
+        let m : k + e + 1 ≡ k + (e + 1) = omega arith in
+        let n : k + e - k ≡ e = omega arith in
+        let y : drop (e + 1) u ≡ drop (k + (e + 1)) t = ap (drop (e + 1)) d ∙ drop-drop (e + 1) k t in
+        rw (n, m, ← d, ← y, line-first w t (W .no-sign) (W .no-feed) (rw (W .sign) at h) u (d ∙ ap (λ m. drop m t) (W .long)) e q l, after-named w (take e u) (W .no-sign))
+
+-- ---- A phase by the first of its lines
+
+inside : {A : Type 0} {a b : A} → _≡_ {A = Parsed A} (ok a) (ok b) → a ≡ b
+inside e = cc
+
+module _ {A : Type 0} (w : List ℕ) (n : ℕ) where
+  one-none : (f : List ℕ → Parsed A) (ls : List (List ℕ)) → headed w ls ≡ bad 3 → one w f n ls ≡ stopped 3 n
+  unfolding headed one
+  one-none f [] h = refl
+  one-none f (l ∷ ls) h = go (after w l) h
+    where
+      go : (x : Parsed (List ℕ)) → (x >>= beside ls) ≡ bad 3 → numbered n ls (x >>= f) ≡ stopped 3 n
+      go (ok v) e = absurd (let z : _≡_ {A = ℕ} 0 1 = cc in omega arith)
+      go (bad r) e = let q : r ≡ 3 = cc in ap (λ m. stopped m n) q
+
+  one-line : (f : List ℕ → Parsed A) (ls rest : List (List ℕ)) (v : List ℕ) → headed w ls ≡ ok (v, rest) → one w f n ls ≡ numbered n rest (f v)
+  unfolding headed one
+  one-line f [] rest v h = absurd (let z : _≡_ {A = ℕ} 0 1 = cc in omega arith)
+  one-line f (l ∷ ls) rest v h = go (after w l) h
+    where
+      go : (x : Parsed (List ℕ)) → (x >>= beside ls) ≡ ok (v, rest) → numbered n ls (x >>= f) ≡ numbered n rest (f v)
+      go (ok u) e = ap (λ (x : List ℕ × List (List ℕ)). numbered n (x .1) (f (x .0))) (inside e)
+      go (bad r) e = absurd (let z : _≡_ {A = ℕ} 0 1 = cc in omega arith)
+
+  many-none : (F : A → List ℕ → Parsed A) (x : A) (ls : List (List ℕ)) → headed w ls ≡ bad 3 → many w F n x ls ≡ done x n ls
+  unfolding headed many
+  many-none F x [] h = refl
+  many-none F x (l ∷ ls) h = go (after w l) h
+    where
+      go : (y : Parsed (List ℕ)) → (y >>= beside ls) ≡ bad 3 → eachLine n x (l ∷ ls) y (F x) (λ b. many w F (n + 1) b ls) ≡ done x n (l ∷ ls)
+      go (ok v) e = absurd (let z : _≡_ {A = ℕ} 0 1 = cc in omega arith)
+      go (bad r) e = refl
+
+  many-line : (F : A → List ℕ → Parsed A) (x : A) (ls rest : List (List ℕ)) (v : List ℕ) → headed w ls ≡ ok (v, rest) → many w F n x ls ≡ onward n (F x v) (λ b. many w F (n + 1) b rest)
+  unfolding headed many
+  many-line F x [] rest v h = absurd (let z : _≡_ {A = ℕ} 0 1 = cc in omega arith)
+  many-line F x (l ∷ ls) rest v h = go (after w l) h
+    where
+      go : (y : Parsed (List ℕ)) → (y >>= beside ls) ≡ ok (v, rest) → eachLine n x (l ∷ ls) y (F x) (λ b. many w F (n + 1) b ls) ≡ onward n (F x v) (λ b. many w F (n + 1) b rest)
+      go (ok u) e = ap (λ (y : List ℕ × List (List ℕ)). onward n (F x (y .0)) (λ b. many w F (n + 1) b (y .1))) (inside e)
+      go (bad r) e = absurd (let z : _≡_ {A = ℕ} 0 1 = cc in omega arith)
+
+-- a number that is read from 1 to a limit is within it
+pub from-one-bound : (m n : ℕ) (s : List ℕ) → fromOne m s ≡ ok n → (1 ≤ n) × (n ≤ m)
+unfolding fromOne
+from-one-bound m n s e = go (upTo m s) refl e
+  where
+    above : (k : ℕ) (b : Bool) → leb 1 k ≡ b → k ≤ m → (need b 4 >> ok k) ≡ ok n → (1 ≤ n) × (n ≤ m)
+    above k true p h e = let l = leb-true 1 k p in let q = inside e in (omega arith, omega arith)
+    above k false p h e = absurd (let z : _≡_ {A = ℕ} 0 1 = cc in omega arith)
+
+    go : (x : Parsed ℕ) → upTo m s ≡ x → (x >>= (λ k. need (leb 1 k) 4 >> ok k)) ≡ ok n → (1 ≤ n) × (n ≤ m)
+    go (ok k) q e = above k (leb 1 k) refl (up-to-bound m k s q) e
+    go (bad r) q e = absurd (let z : _≡_ {A = ℕ} 0 1 = cc in omega arith)
+
+-- where a line of the name ends
+pub placed : {p t : List ℕ} {r : Found} {e : ℕ} → FirstLine p t r → r ≡ Until e → (length p ≤ e) × (e < length t)
+placed {p} {t} l q = subst (Placed (length p) t) q (l .place)
+
+-- ---- A phase of one line, by the first line of s
+
+module _ {w p s : List ℕ} {r : Found} (W : Word w p (length p)) (l : FirstLine p s r) where
+  other : r ≡ Other → headed w (lines s) ≡ bad 3
+  other q = sym (l .line w W) ∙ ap (foundAs (length p) s) q
+
+  named : {e : ℕ} → r ≡ Until e → headed w (lines s) ≡ ok (take (e - length p) (drop (length p) s), lines (drop (e + 1) s))
+  named q = sym (l .line w W) ∙ ap (foundAs (length p) s) q
+
+  module _ {A : Type 0} (f : List ℕ → Parsed A) {first : ℕ} where
+    pub one-other : {a : A} → r ≡ Other → Reads (one w f) s first (Refused 3 first) a
+    one-other q = record { read = sym (one-none w first f (lines s) (other q)); ahead = tt }
+
+    pub one-bad : {a : A} {e n : ℕ} → r ≡ Until e → f (take (e - length p) (drop (length p) s)) ≡ bad n → Reads (one w f) s first (Refused n first) a
+    one-bad q b = record { read = sym (one-line w first f (lines s) _ _ (named q) ∙ rw b); ahead = tt }
+
+    pub one-ok : {a : A} {e : ℕ} → r ≡ Until e → f (take (e - length p) (drop (length p) s)) ≡ ok a → Reads (one w f) s first (To (first + 1) (e + 1)) a
+    one-ok q b = let h = placed l q in record { read = sym (one-line w first f (lines s) _ _ (named q) ∙ rw b); ahead = (omega arith, omega arith) }
+
+-- ---- A phase of many lines, by a loop over s: the lines before a gave x, and those from a on, of which the first has the number line, are left
+
+pub record Going {A : Type 0} (w : List ℕ) (F : A → List ℕ → Parsed A) (start : A) (s : List ℕ) (first line a : ℕ) (x : A) : Type 0 where
+  pub place : a ≤ length s
+  pub number : line ≤ first + a
+  pub same : many w F line x (lines (drop a s)) ≡ many w F first start (lines s)
+
+module _ {A : Type 0} {w : List ℕ} {F : A → List ℕ → Parsed A} {start : A} {s : List ℕ} {first : ℕ} where
+  pub going-on : (x : A) → x ≡ start → Going w F start s first first 0 x
+  going-on x q = record { place = omega arith; number = omega arith; same = rw q }
+
+  module _ {p t : List ℕ} {r : Found} (W : Word w p (length p)) (l : FirstLine p t r) {line a : ℕ} {x : A} (g : Going w F start s first line a x) (d : t ≡ drop a s) where
+    pub going-left : r ≡ Other → Reads (λ n ls. many w F n start ls) s first (To line a) x
+    going-left q = record { read = sym (sym (g .same) ∙ many-none w line F x (lines (drop a s)) (rw (← d) (other W l q))); ahead = (g .place, g .number) }
+
+    module _ {e : ℕ} (q : r ≡ Until e) where
+      within : headed w (lines (drop a s)) ≡ ok (take (e - length p) (drop (length p) t), lines (drop (a + e + 1) s))
+      within = let m : a + e + 1 ≡ a + (e + 1) = omega arith in rw (m, ← (drop-drop (e + 1) a s), ← d) (named W l q)
+
+      pub going-bad : {y : A} {n : ℕ} → F x (take (e - length p) (drop (length p) t)) ≡ bad n → Reads (λ n ls. many w F n start ls) s first (Refused n line) y
+      going-bad b = record { read = sym (sym (g .same) ∙ many-line w line F x (lines (drop a s)) _ _ within ∙ rw b); ahead = tt }
+
+      -- the next line starts within s
+      pub going-bound : a + e + 1 ≤ length s
+      going-bound =
+          let h = placed l q in
+          let n : length t ≡ length s - a = rw d (length-drop a s) in
+          omega (arith, g .place)
+
+      pub going-more : (y : A) → F x (take (e - length p) (drop (length p) t)) ≡ ok y → Going w F start s first (line + 1) (a + e + 1) y
+      going-more y b = record { place = going-bound; number = omega (arith, g .number); same = sym (many-line w line F x (lines (drop a s)) _ _ within ∙ rw b) ∙ g .same }
+
+-- ---- A line more into an array: f shows what an element stands for, and the first n of xs count
+
+pub map-more : {A B : Type 0} (f : A → B) (n : ℕ) (xs : List A) (x : A) → n < length xs → map f (take (n + 1) (set xs n x)) ≡ map f (take n xs) ++ (f x ∷ [])
+map-more f n xs x h = rw (add-one, take-suc-set xs n x h) (map-append f (take n xs) (x ∷ []))
+
+module _ {A B : Type 0} (f : A → B) (m : ℕ) (read : List ℕ → Parsed B) (n : ℕ) (xs : List A) (v : List ℕ) where
+  shown : n ≤ length xs → length (map f (take n xs)) ≡ n
+  shown h = length-map (take n xs) f ∙ length-take-le n xs h
+
+  pub array-full : m ≤ n → n ≤ length xs → oneMore m read (map f (take n xs)) v ≡ bad 8
+  array-full l h = more-full m read (map f (take n xs)) v (rw (shown h) l)
+
+  module _ (l : n < m) (h : n < length xs) where
+    pub array-bad : (r : ℕ) → read v ≡ bad r → oneMore m read (map f (take n xs)) v ≡ bad r
+    array-bad r e = more-bad m read (map f (take n xs)) v r (rw (shown (omega arith)) l) e
+
+    pub array-ok : (x : A) → read v ≡ ok (f x) → oneMore m read (map f (take n xs)) v ≡ ok (map f (take (n + 1) (set xs n x)))
+    array-ok x e = more-ok m read (map f (take n xs)) v (f x) (rw (shown (omega arith)) l) e ∙ ap ok (sym (map-more f n xs x h))

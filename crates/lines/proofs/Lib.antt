@@ -1,0 +1,2 @@
+-- The laws of lines and phases that the crates above cite.
+pub mod Laws

@@ -1,0 +1,3 @@
+-- The laws of the entry, and the three demands.
+pub mod Laws
+pub mod Demands

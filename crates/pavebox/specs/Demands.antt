@@ -1,0 +1,54 @@
+-- The three demands, of what the C entry returns and leaves; a call is stated by the contract that the entry is proved to meet.
+use Prim.Native.Nat.{ℕ, _+_, _*_, _<_, _≤_}
+use mathlib.Core.Path.{_≡_}
+use mathlib.Core.List.{List, _++_}
+use lib.ListN.{length, getD, drop}
+use Rattle.model.specs.Answer.{numbersOf, allLe32, answerBytes, runSheet}
+use Rattle.model.specs.Job.{Job}
+use Rattle.model.specs.Output.{bytesOf}
+use Rattle.model.specs.Reading.{accepted, refused, readSheet}
+use Rattle.model.specs.Run.{runJob}
+use Rattle.model.specs.Secrecy.{Alike, Hidden}
+use Rattle.model.specs.declared.Answer.the-variants.{Ended, Refused}
+use Rattle.model.specs.declared.Level.the-variants.{High}
+use Rattle.pavebox.specs.Entry.{Answered}
+
+-- A call with an answer memory of 24 bytes
+pub record Call (sheet output answer : List ℕ) (returned : ℕ) (output′ answer′ : List ℕ) : Type 0 where
+  pub sized : length answer ≡ answerBytes
+  pub met : Answered sheet output answer returned output′ answer′
+
+-- Demand 1. After any sheet at all the output memory holds the lines sent and behind them its old bytes; a faulty sheet leaves it untouched and gets
+-- exactly the number and line of document 01. (That every run ends, and that the sheet needs no looking at, is that the entry is proved with no
+-- `requires`.)
+pub record Demand1 (sheet output answer : List ℕ) (returned : ℕ) (output′ answer′ : List ℕ) : Type 0 where
+  pub accepts : (j : Job) → readSheet sheet ≡ accepted j → output′ ≡ bytesOf (runJob j (length output) .lines) ++ drop (length (bytesOf (runJob j (length output) .lines))) output
+  pub refuses : (n l : ℕ) → readSheet sheet ≡ refused n l → (output′ ≡ output) × (returned ≡ n) × (answer′ ≡ allLe32 (numbersOf (Refused n l)))
+  pub size : length output′ ≡ length output
+
+-- Demand 2. Every answer, sent line and count equals what the paired model gives for that sheet.
+pub record Demand2 (sheet output answer : List ℕ) (returned : ℕ) (output′ answer′ : List ℕ) : Type 0 where
+  pub numbers : answer′ ≡ allLe32 (numbersOf (runSheet sheet output .answer))
+  pub first : returned ≡ getD (numbersOf (runSheet sheet output .answer)) 0 0
+  pub memory : output′ ≡ runSheet sheet output .memory
+
+-- Demand 3. Two accepted sheets that differ in secret entries only give the same return and answer memory, and the same output byte at every place
+-- outside the secret columns.
+pub record Demand3 (s t : List ℕ) (a b : Job) (output : List ℕ) (returned₁ returned₂ : ℕ) (output₁ output₂ answer₁ answer₂ : List ℕ) : Type 0 where
+  pub returns : returned₁ ≡ returned₂
+  pub answers : answer₁ ≡ answer₂
+  pub size : length output₁ ≡ length output₂
+  pub byte : (p : ℕ) → ¬ Hidden High (a .keys) (runJob a (length output) .counts .bytes) p → getD output₁ p 0 ≡ getD output₂ p 0
+
+abbrev pub Demand1Holds : Type 0
+Demand1Holds = (s o a : List ℕ) (r : ℕ) (o′ a′ : List ℕ) → Call s o a r o′ a′ → Demand1 s o a r o′ a′
+
+abbrev pub Demand2Holds : Type 0
+Demand2Holds = (s o a : List ℕ) (r : ℕ) (o′ a′ : List ℕ) → Call s o a r o′ a′ → Demand2 s o a r o′ a′
+
+abbrev pub Demand3Holds : Type 0
+Demand3Holds =
+    (s t : List ℕ) (j k : Job) (o a₁ a₂ : List ℕ) (r₁ r₂ : ℕ) (o₁ o₂ b₁ b₂ : List ℕ)
+    → readSheet s ≡ accepted j → readSheet t ≡ accepted k → Alike High j k
+    → Call s o a₁ r₁ o₁ b₁ → Call t o a₂ r₂ o₂ b₂
+    → Demand3 s t j k o r₁ r₂ o₁ o₂ b₁ b₂

@@ -1,0 +1,2 @@
+-- The laws of the phases that the crates above cite.
+pub mod Laws

@@ -1,0 +1,2 @@
+-- The laws of the commands.
+pub mod Laws

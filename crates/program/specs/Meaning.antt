@@ -1,0 +1,21 @@
+-- What the readers of the commands answer.
+use mathlib.Core.Path.{_≡_}
+use mathlib.Core.Bool.{cond}
+use mathlib.Core.List.{List}
+use Prim.Native.Nat.{ℕ, _+_, _≤_}
+use lib.Dec.{ltb}
+use lib.ListN.{length, take}
+use Rattle.model.specs.Job.{Job}
+use Rattle.model.specs.Reading.{accepted, refused, readCommands, targets}
+use Rattle.model.specs.declared.Command.{Command}
+use Rattle.lines.specs.Meaning.{Reads}
+use Rattle.program.specs.declared.Commands.{Commands}
+
+pub record CommandsRead (K : ℕ) (s : List ℕ) (first : ℕ) (r : Commands) : Type 0 where
+  pub phase : Reads (readCommands K) s first (r .came) (take (r .count) (r .commands))
+  pub few : r .count ≤ length (r .commands)
+
+-- r is the place of the first of m commands whose target exceeds m: the reading of the job j ends there, the first command being on the line top
+pub record FirstFar (cs : List Command) (m r : ℕ) : Type 0 where
+  pub reading : (top : ℕ) (j : Job) → targets top m (take m cs) j ≡ cond (ltb r m) (refused 7 (top + r)) (accepted j)
+  pub place : r ≤ 64

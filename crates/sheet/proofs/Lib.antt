@@ -1,0 +1,2 @@
+-- The laws of a whole sheet.
+pub mod Laws

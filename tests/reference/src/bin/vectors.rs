@@ -1,0 +1,51 @@
+//! The sheets of the program `vectors`, and what it must print.
+//!
+//! `vectors sheets` prints the sheets, a byte 0 after each; `vectors text` prints what
+//! `runsheet` would print for each of them, with 32,768 bytes lent and then with 100.
+
+use reference::generate::{accepted, damaged, noise, Rng, Shape};
+use reference::{corners, printed};
+use std::io::Write;
+
+const SEED: u64 = 20_261_115;
+const ROOM: usize = 60_000;
+const LENT: [usize; 2] = [32_768, 100];
+
+/// Document 01's examples and corners, then generated sheets of every kind.
+fn sheets() -> Vec<Vec<u8>> {
+    let mut rng = Rng::new(SEED);
+    let mut all: Vec<Vec<u8>> = corners::corners().into_iter().map(|c| c.sheet).collect();
+    for i in 0..240 {
+        all.push(match i % 6 {
+            0 | 1 => accepted(&mut rng, Shape::Small),
+            2 => accepted(&mut rng, Shape::Medium),
+            3 | 4 => damaged(&mut rng),
+            _ => noise(&mut rng),
+        });
+    }
+    let mut used = 0;
+    all.retain(|s| {
+        let fits = s.len() <= 1_500 && !s.contains(&0) && used + s.len() < ROOM;
+        if fits {
+            used += s.len() + 1;
+        }
+        fits
+    });
+    all
+}
+
+fn main() -> std::io::Result<()> {
+    let mut out = std::io::stdout().lock();
+    let text = std::env::args().nth(1).as_deref() == Some("text");
+    for sheet in sheets() {
+        if text {
+            for lent in LENT {
+                out.write_all(&printed(&sheet, lent))?;
+            }
+        } else {
+            out.write_all(&sheet)?;
+            out.write_all(&[0])?;
+        }
+    }
+    out.flush()
+}
