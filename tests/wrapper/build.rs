@@ -2,7 +2,7 @@
 //! `target/staticlib`, where `rt staticlib pavebox` puts it.
 
 use std::env;
-use std::path::{Path, PathBuf};
+use std::path::PathBuf;
 
 fn main() {
     let folder = folder();
@@ -23,6 +23,12 @@ fn main() {
 fn folder() -> PathBuf {
     match env::var_os("PAVEBOX_LIB_DIR") {
         Some(folder) => PathBuf::from(folder),
-        None => Path::new(env!("CARGO_MANIFEST_DIR")).join("../../target/staticlib"),
+        // Cargo runs this in the package's folder, but the compiler may run elsewhere.
+        None => package_folder().join("../../target/staticlib"),
     }
+}
+
+fn package_folder() -> PathBuf {
+    let folder = env::var_os("CARGO_MANIFEST_DIR");
+    PathBuf::from(folder.expect("cargo names the package's folder"))
 }
