@@ -1,0 +1,111 @@
+//! Compares the archive with a straightforward Rust program. See README.md for the commands.
+
+mod plain;
+mod sheets;
+mod timing;
+
+use sheets::Sheets;
+use std::hint::black_box;
+use std::path::Path;
+use std::process::ExitCode;
+
+/// The output memory that both are lent.
+const LENT: usize = 32_768;
+
+/// One of the two sides: a sheet and an output memory to six numbers.
+type Side = fn(&[u8], &mut [u8]) -> [u32; 6];
+
+fn archive(sheet: &[u8], output: &mut [u8]) -> [u32; 6] {
+    pavebox::run(sheet, output).numbers()
+}
+
+fn plain(sheet: &[u8], output: &mut [u8]) -> [u32; 6] {
+    plain::run(sheet, output).expect("the sheets of the comparison are accepted")
+}
+
+fn main() -> ExitCode {
+    let words: Vec<String> = std::env::args().skip(1).collect();
+    let words: Vec<&str> = words.iter().map(String::as_str).collect();
+    let done = match words.as_slice() {
+        [] => compare_and_time(),
+        ["archive", count] => run_one(archive, count, "all"),
+        ["archive", count, half] => run_one(archive, count, half),
+        ["plain", count] => run_one(plain, count, "all"),
+        ["plain", count, half] => run_one(plain, count, half),
+        ["sheets", folder] => write_sheets(folder),
+        _ => Err(usage()),
+    };
+    match done {
+        Ok(()) => ExitCode::SUCCESS,
+        Err(message) => {
+            eprintln!("{message}");
+            ExitCode::FAILURE
+        }
+    }
+}
+
+fn usage() -> String {
+    "usage: bench\n       bench archive|plain COUNT [all|long|short]\n       bench sheets FOLDER"
+        .to_string()
+}
+
+fn compare_and_time() -> Result<(), String> {
+    let (long, short) = (sheets::long(), sheets::short());
+    compare(&long)?;
+    compare(&short)?;
+    println!("archive and plain agree on all sheets");
+    print!("{}", timing::report(&long, &short));
+    Ok(())
+}
+
+/// Both sides on each sheet: the six numbers, and every byte of the output memory.
+fn compare(half: &Sheets) -> Result<(), String> {
+    for sheet in &half.sheets {
+        let (mut one, mut other) = (vec![b'~'; LENT], vec![b'~'; LENT]);
+        let (found, wanted) = (archive(sheet, &mut one), plain(sheet, &mut other));
+        if found != wanted || one != other {
+            let sheet = sheet.escape_ascii();
+            return Err(format!("archive {found:?}, plain {wanted:?}: \"{sheet}\""));
+        }
+    }
+    Ok(())
+}
+
+/// Runs one side over each sheet, COUNT times, and prints what one such pass comes to.
+fn run_one(side: Side, count: &str, name: &str) -> Result<(), String> {
+    let count: u32 = count.parse().map_err(|_| usage())?;
+    let halves = match name {
+        "all" => vec![sheets::long(), sheets::short()],
+        "long" => vec![sheets::long()],
+        "short" => vec![sheets::short()],
+        _ => return Err(usage()),
+    };
+    for _ in 0..count {
+        halves.iter().for_each(|half| pass(side, half));
+    }
+    let sheets: usize = halves.iter().map(|half| half.sheets.len()).sum();
+    let positions: u64 = halves.iter().map(|half| half.positions).sum();
+    let bytes: usize = halves.iter().map(|half| half.bytes).sum();
+    println!("{sheets} sheets {positions} positions {bytes} bytes");
+    Ok(())
+}
+
+/// One side, once over each sheet.
+fn pass(side: Side, half: &Sheets) {
+    let mut output = [0; LENT];
+    for sheet in &half.sheets {
+        black_box(side(black_box(sheet), black_box(&mut output)));
+    }
+}
+
+/// Writes each sheet to a file of its own.
+fn write_sheets(folder: &str) -> Result<(), String> {
+    for half in [sheets::long(), sheets::short()] {
+        for (place, sheet) in half.sheets.iter().enumerate() {
+            let file = Path::new(folder).join(format!("{}_{place:03}.txt", half.name));
+            let failed = |error| format!("{}: {error}", file.display());
+            std::fs::write(&file, sheet).map_err(failed)?;
+        }
+    }
+    Ok(())
+}

@@ -1,0 +1,403 @@
+//! The confidential run as a straightforward Rust program: safe, idiomatic, not tuned. It accepts
+//! the sheets that document 01 accepts, but does not say why it refuses the others.
+
+const MOST_BYTES: usize = 16_384;
+const MOST_KEYS: usize = 8;
+const MOST_COMMANDS: usize = 64;
+const MOST_MESSAGES: usize = 32;
+const MOST_TURNS: usize = 1_024;
+const VARIABLES: usize = 8;
+
+/// One entry or none for each key.
+type Entries = [Option<i32>; MOST_KEYS];
+
+/// What a sheet says. The letters stay in the sheet.
+struct Job<'a> {
+    keys: usize,
+    secrets: Entries,
+    commands: Vec<Command>,
+    messages: Vec<Entries>,
+    turns: &'a [u8],
+}
+
+#[derive(Clone, Copy)]
+enum Command {
+    Set(usize, i32),
+    Add(usize, usize),
+    Sub(usize, usize),
+    Mul(usize, usize),
+    Div(usize, usize),
+    Read(usize, usize),
+    Has(usize, usize),
+    Put(usize, usize),
+    Drop(usize),
+    IfNeg(usize, usize),
+    IfZero(usize, usize),
+    Jump(usize),
+    Receive,
+    Send,
+    Stop,
+}
+
+/// Reads a sheet and runs it: the six numbers, or nothing if the sheet is not accepted.
+pub fn run(sheet: &[u8], output: &mut [u8]) -> Option<[u32; 6]> {
+    let job = read(sheet)?;
+    Some(run_job(&job, output))
+}
+
+// Reading.
+
+fn read(sheet: &[u8]) -> Option<Job<'_>> {
+    let allowed = |&byte: &u8| byte == b'\n' || (32..=126).contains(&byte);
+    if sheet.len() > MOST_BYTES || !sheet.iter().all(allowed) {
+        return None;
+    }
+    let mut lines = Lines::of(sheet.strip_suffix(b"\n")?);
+    if lines.next_named(b"sheet=")? != b"1" {
+        return None;
+    }
+    let keys = small(lines.next_named(b"keys=")?, 1, MOST_KEYS)?;
+    let secrets = read_secrets(&mut lines, keys)?;
+    let commands = read_commands(&mut lines, keys)?;
+    let messages = read_messages(&mut lines, keys)?;
+    let turns = lines.next_named(b"turns=")?;
+    if !lines.at_end() || !targets_good(&commands) || !turns_good(turns) {
+        return None;
+    }
+    Some(Job {
+        keys,
+        secrets,
+        commands,
+        messages,
+        turns,
+    })
+}
+
+fn targets_good(commands: &[Command]) -> bool {
+    commands.iter().all(|&command| match command {
+        Command::IfNeg(_, t) | Command::IfZero(_, t) | Command::Jump(t) => t <= commands.len(),
+        _ => true,
+    })
+}
+
+fn turns_good(turns: &[u8]) -> bool {
+    let letter = |&byte: &u8| byte == b'L' || byte == b'H';
+    (1..=MOST_TURNS).contains(&turns.len()) && turns.iter().all(letter)
+}
+
+/// The lines that are still to be read.
+struct Lines<'a> {
+    rest: Option<&'a [u8]>,
+}
+
+impl<'a> Lines<'a> {
+    fn of(text: &'a [u8]) -> Lines<'a> {
+        Lines { rest: Some(text) }
+    }
+
+    /// Takes the next line if it begins with the name, and gives what stands after that.
+    fn next_named(&mut self, name: &[u8]) -> Option<&'a [u8]> {
+        let text = self.rest?.strip_prefix(name)?;
+        match text.iter().position(|&byte| byte == b'\n') {
+            Some(end) => {
+                self.rest = Some(&text[end + 1..]);
+                Some(&text[..end])
+            }
+            None => {
+                self.rest = None;
+                Some(text)
+            }
+        }
+    }
+
+    fn at_end(&self) -> bool {
+        self.rest.is_none()
+    }
+}
+
+fn read_secrets(lines: &mut Lines, keys: usize) -> Option<Entries> {
+    let mut secrets = [None; MOST_KEYS];
+    let mut lowest = 0;
+    while let Some(text) = lines.next_named(b"secret=") {
+        let (key, dummy) = entry(text, lowest, keys)?;
+        secrets[key] = Some(dummy);
+        lowest = key + 1;
+    }
+    Some(secrets)
+}
+
+fn read_commands(lines: &mut Lines, keys: usize) -> Option<Vec<Command>> {
+    let mut commands = Vec::with_capacity(MOST_COMMANDS);
+    while let Some(text) = lines.next_named(b"do=") {
+        if commands.len() == MOST_COMMANDS {
+            return None;
+        }
+        commands.push(command(text, keys)?);
+    }
+    (!commands.is_empty()).then_some(commands)
+}
+
+fn read_messages(lines: &mut Lines, keys: usize) -> Option<Vec<Entries>> {
+    let mut messages = Vec::with_capacity(MOST_MESSAGES);
+    while let Some(text) = lines.next_named(b"msg=") {
+        if messages.len() == MOST_MESSAGES {
+            return None;
+        }
+        messages.push(message(text, keys)?);
+    }
+    Some(messages)
+}
+
+fn message(text: &[u8], keys: usize) -> Option<Entries> {
+    let mut entries = [None; MOST_KEYS];
+    if text.is_empty() {
+        return Some(entries);
+    }
+    let mut lowest = 0;
+    for part in text.split(|&byte| byte == b',') {
+        let (key, value) = entry(part, lowest, keys)?;
+        entries[key] = Some(value);
+        lowest = key + 1;
+    }
+    Some(entries)
+}
+
+/// A `key:value` part whose key is at least `lowest`.
+fn entry(part: &[u8], lowest: usize, keys: usize) -> Option<(usize, i32)> {
+    let colon = part.iter().position(|&byte| byte == b':')?;
+    let key = small(&part[..colon], lowest, keys - 1)?;
+    Some((key, value(&part[colon + 1..])?))
+}
+
+fn command(text: &[u8], keys: usize) -> Option<Command> {
+    let mut parts = text.split(|&byte| byte == b' ');
+    let word = parts.next()?;
+    let mut next = || parts.next();
+    let variable = |text: &[u8]| small(text, 0, VARIABLES - 1);
+    let key = |text: &[u8]| small(text, 0, keys - 1);
+    let target = |text: &[u8]| small(text, 0, MOST_COMMANDS);
+    let command = match word {
+        b"set" => Command::Set(variable(next()?)?, value(next()?)?),
+        b"add" => Command::Add(variable(next()?)?, variable(next()?)?),
+        b"sub" => Command::Sub(variable(next()?)?, variable(next()?)?),
+        b"mul" => Command::Mul(variable(next()?)?, variable(next()?)?),
+        b"div" => Command::Div(variable(next()?)?, variable(next()?)?),
+        b"read" => Command::Read(variable(next()?)?, key(next()?)?),
+        b"has" => Command::Has(variable(next()?)?, key(next()?)?),
+        b"put" => Command::Put(key(next()?)?, variable(next()?)?),
+        b"drop" => Command::Drop(key(next()?)?),
+        b"ifneg" => Command::IfNeg(variable(next()?)?, target(next()?)?),
+        b"ifzero" => Command::IfZero(variable(next()?)?, target(next()?)?),
+        b"jump" => Command::Jump(target(next()?)?),
+        b"receive" => Command::Receive,
+        b"send" => Command::Send,
+        b"stop" => Command::Stop,
+        _ => return None,
+    };
+    next().is_none().then_some(command)
+}
+
+/// A number of the full range.
+fn value(text: &[u8]) -> Option<i32> {
+    let (minus, digits) = match text.strip_prefix(b"-") {
+        Some(digits) => (true, digits),
+        None => (false, text),
+    };
+    let good_start = match digits {
+        [b'0'] => !minus,
+        [b'1'..=b'9', ..] => digits.len() <= 10,
+        _ => false,
+    };
+    if !good_start {
+        return None;
+    }
+    let mut number: i64 = 0;
+    for byte in digits {
+        if !byte.is_ascii_digit() {
+            return None;
+        }
+        number = number * 10 + i64::from(byte - b'0');
+    }
+    i32::try_from(if minus { -number } else { number }).ok()
+}
+
+fn small(text: &[u8], lowest: usize, highest: usize) -> Option<usize> {
+    let number = usize::try_from(value(text)?).ok()?;
+    (lowest..=highest).contains(&number).then_some(number)
+}
+
+// Running.
+
+/// One execution and its own fields of the message.
+#[derive(Default)]
+struct Execution {
+    place: usize,
+    variables: [i32; VARIABLES],
+    fields: Entries,
+    calls: u32,
+}
+
+impl Execution {
+    fn step(&mut self, command: Command, end: usize) {
+        let variables = &mut self.variables;
+        let mut next = self.place + 1;
+        match command {
+            Command::Set(v, n) => variables[v] = n,
+            Command::Add(v, w) => variables[v] = variables[v].saturating_add(variables[w]),
+            Command::Sub(v, w) => variables[v] = variables[v].saturating_sub(variables[w]),
+            Command::Mul(v, w) => variables[v] = variables[v].saturating_mul(variables[w]),
+            Command::Div(v, w) => variables[v] = quotient(variables[v], variables[w]),
+            Command::Read(v, k) => variables[v] = self.fields[k].unwrap_or(0),
+            Command::Has(v, k) => variables[v] = i32::from(self.fields[k].is_some()),
+            Command::Put(k, v) => self.fields[k] = Some(variables[v]),
+            Command::Drop(k) => self.fields[k] = None,
+            Command::IfNeg(v, t) => {
+                if variables[v] < 0 {
+                    next = t;
+                }
+            }
+            Command::IfZero(v, t) => {
+                if variables[v] == 0 {
+                    next = t;
+                }
+            }
+            Command::Jump(t) => next = t,
+            Command::Receive | Command::Send => self.calls += 1,
+            Command::Stop => next = end,
+        }
+        self.place = next;
+    }
+}
+
+fn quotient(v: i32, w: i32) -> i32 {
+    if w == 0 {
+        0
+    } else {
+        v.saturating_div(w)
+    }
+}
+
+fn run_job(job: &Job, output: &mut [u8]) -> [u32; 6] {
+    let end = job.commands.len();
+    let width = 10 + 12 * job.keys;
+    let (mut low, mut high) = (Execution::default(), Execution::default());
+    let (mut positions, mut low_steps, mut written, mut taken) = (0, 0, 0, 0);
+    let ending = loop {
+        let Some(&command) = job.commands.get(low.place) else {
+            break 0;
+        };
+        let Some(&letter) = job.turns.get(positions) else {
+            break 31;
+        };
+        if letter == b'L' {
+            match command {
+                Command::Receive => {
+                    receive(job, taken, &mut low.fields, &mut high.fields);
+                    taken = job.messages.len().min(taken + 1);
+                }
+                Command::Send => {
+                    let Some(line) = output.get_mut(written..written + width) else {
+                        break 32;
+                    };
+                    write_line(line, job, positions, &low.fields, &high.fields);
+                    written += width;
+                }
+                _ => {}
+            }
+            low.step(command, end);
+            low_steps += 1;
+        } else if let Some(&command) = job.commands.get(high.place) {
+            let waits = matches!(command, Command::Receive | Command::Send);
+            if !waits || high.calls < low.calls {
+                high.step(command, end);
+            }
+        }
+        positions += 1;
+    };
+    [
+        ending,
+        0,
+        positions as u32,
+        low_steps,
+        written as u32,
+        taken as u32,
+    ]
+}
+
+fn receive(job: &Job, taken: usize, low: &mut Entries, high: &mut Entries) {
+    let Some(line) = job.messages.get(taken) else {
+        *low = [None; MOST_KEYS];
+        *high = [None; MOST_KEYS];
+        return;
+    };
+    *high = *line;
+    for key in 0..job.keys {
+        low[key] = job.secrets[key].or(line[key]);
+    }
+}
+
+fn write_line(line: &mut [u8], job: &Job, position: usize, low: &Entries, high: &Entries) {
+    line[..5].copy_from_slice(b"sent=");
+    write_digits(&mut line[5..9], position as u32);
+    for key in 0..job.keys {
+        let secret = job.secrets[key].is_some();
+        let field = if secret { high[key] } else { low[key] };
+        let column = &mut line[9 + 12 * key..21 + 12 * key];
+        column[0] = b' ';
+        match field {
+            None => column[1..].fill(b'.'),
+            Some(number) => {
+                column[1] = if number < 0 { b'-' } else { b'+' };
+                write_digits(&mut column[2..], number.unsigned_abs());
+            }
+        }
+    }
+    line[9 + 12 * job.keys] = b'\n';
+}
+
+fn write_digits(place: &mut [u8], mut number: u32) {
+    for byte in place.iter_mut().rev() {
+        *byte = b'0' + (number % 10) as u8;
+        number /= 10;
+    }
+}
+
+#[cfg(test)]
+mod tests {
+    use reference::corners::corners;
+    use reference::generate::{accepted, damaged, memory_length, noise, Rng, Shape};
+    use reference::run_sheet;
+
+    fn check(sheet: &[u8], lent: usize) {
+        let (mut output, mut wanted) = (vec![b'~'; lent], vec![b'~'; lent]);
+        let numbers = run_sheet(sheet, &mut wanted);
+        let accepted = matches!(numbers[0], 0 | 31 | 32);
+        let found = super::run(sheet, &mut output);
+        assert_eq!(
+            found,
+            accepted.then_some(numbers),
+            "{}",
+            sheet.escape_ascii()
+        );
+        assert!(output == wanted, "{}", sheet.escape_ascii());
+    }
+
+    #[test]
+    fn it_runs_what_the_reference_runs_and_refuses_what_it_refuses() {
+        for corner in corners() {
+            check(&corner.sheet, corner.lent);
+        }
+        let mut rng = Rng::new(1);
+        for place in 0..20_000 {
+            let sheet = match place % 4 {
+                0 => noise(&mut rng),
+                1 | 2 => damaged(&mut rng),
+                _ => {
+                    let shape = rng.pick(&Shape::ALL);
+                    accepted(&mut rng, shape)
+                }
+            };
+            check(&sheet, memory_length(&mut rng, &sheet));
+        }
+    }
+}

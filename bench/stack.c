@@ -1,0 +1,84 @@
+/*
+ * The stack that the archive uses: each sheet that the command line names is run on a stack of our
+ * own, painted with one byte. The deepest byte that has changed tells how much was used. A byte may
+ * be written without a change, so each sheet is run with two paints. What a function that does
+ * nothing uses in the same place is taken off.
+ */
+#define _GNU_SOURCE
+#include "pavebox.h"
+
+#include <stdio.h>
+#include <stdlib.h>
+#include <string.h>
+#include <ucontext.h>
+
+#define STACK_BYTES (1u << 20)
+
+typedef uint32_t entry(const uint8_t *, size_t, uint8_t *, size_t, uint8_t *, size_t);
+
+static uint8_t stack[STACK_BYTES];
+static uint8_t sheet[PAVEBOX_MOST_SHEET_BYTES + 1];
+static uint8_t output[32768];
+static uint8_t answer[PAVEBOX_ANSWER_BYTES];
+static size_t length;
+static entry *volatile called;
+static ucontext_t here, there;
+
+static uint32_t nothing(const uint8_t *s, size_t s_len, uint8_t *o, size_t o_len, uint8_t *a,
+                        size_t a_len)
+{
+    (void)s, (void)s_len, (void)o, (void)o_len, (void)a, (void)a_len;
+    return 0;
+}
+
+static void call(void)
+{
+    called(sheet, length, output, sizeof output, answer, sizeof answer);
+}
+
+/* The bytes from the top of the painted stack down to the deepest one that a call has changed. */
+static size_t depth(entry *which, uint8_t paint)
+{
+    size_t place = 0;
+    memset(stack, paint, STACK_BYTES);
+    called = which;
+    if (getcontext(&there) != 0)
+        exit(2);
+    there.uc_stack.ss_sp = stack;
+    there.uc_stack.ss_size = STACK_BYTES;
+    there.uc_link = &here;
+    makecontext(&there, call, 0);
+    if (swapcontext(&here, &there) != 0)
+        exit(2);
+    while (place < STACK_BYTES && stack[place] == paint)
+        place++;
+    return STACK_BYTES - place;
+}
+
+static size_t larger(size_t one, size_t other)
+{
+    return one > other ? one : other;
+}
+
+static size_t deepest(entry *which)
+{
+    return larger(depth(which, 0xa5), depth(which, 0x5a));
+}
+
+int main(int count, char **names)
+{
+    size_t most = 0;
+    int place;
+    for (place = 1; place < count; place++) {
+        FILE *file = fopen(names[place], "rb");
+        if (file == NULL) {
+            perror(names[place]);
+            return 2;
+        }
+        length = fread(sheet, 1, sizeof sheet, file);
+        fclose(file);
+        most = larger(most, deepest(pavebox_run) - deepest(nothing));
+    }
+    printf("%lu\n", (unsigned long)most);
+    return 0;
+}

@@ -1,0 +1,93 @@
+/*
+ * The confidential run of one sheet: two executions, one message. Link with libpavebox.a.
+ */
+#ifndef PAVEBOX_H
+#define PAVEBOX_H
+
+#include <stddef.h>
+#include <stdint.h>
+
+#ifdef __cplusplus
+extern "C" {
+#endif
+
+/* The answer memory has exactly this many bytes. */
+#define PAVEBOX_ANSWER_BYTES 24u
+
+/* A longer sheet is refused. A host that reads one byte more can tell that a sheet is longer. */
+#define PAVEBOX_MOST_SHEET_BYTES 16384u
+
+/* No run sends more than this: 1,024 lines of 106 bytes. With this much output memory, or more,
+ * PAVEBOX_NO_ROOM never occurs. */
+#define PAVEBOX_MOST_OUTPUT_BYTES 108544u
+
+/* Endings: the sheet was accepted and ran. */
+#define PAVEBOX_STOPPED 0u       /* the low execution has stopped */
+#define PAVEBOX_LETTERS_USED 31u /* it has not, and all letters are used */
+#define PAVEBOX_NO_ROOM 32u      /* it has not, and the output memory has no room for its line */
+
+/* Refusals: nothing ran, and the output memory is untouched. */
+#define PAVEBOX_SHEET_TOO_LONG 1u /* more than 16,384 bytes */
+#define PAVEBOX_BAD_BYTE 2u       /* a forbidden byte, no line feed at the end, or an empty sheet */
+#define PAVEBOX_BAD_NAME 3u       /* a name that may not stand here, no '=', or an early end */
+#define PAVEBOX_BAD_NUMBER 4u     /* a malformed number, one beyond its limit, or no colon */
+#define PAVEBOX_BAD_KEY_ORDER 5u  /* a key that is not greater than the one before it */
+#define PAVEBOX_BAD_COMMAND 6u    /* an unknown command word, or a wrong count of parts */
+#define PAVEBOX_BAD_TARGET 7u     /* a target that exceeds the count of commands */
+#define PAVEBOX_TOO_MANY 8u       /* a 65th command, a 33rd message, a 1,025th byte of turns */
+#define PAVEBOX_BAD_TURNS 9u      /* no turn, or a letter other than L and H */
+#define PAVEBOX_BAD_ANSWER 10u    /* the answer memory is not exactly 24 bytes */
+
+/*
+ * Reads the sheet and runs it to its ending.
+ *
+ * sheet, sheet_len    the sheet's bytes, which are only read. Any bytes will do.
+ * output, output_len  the output memory. The sent lines go to its start, one after the other;
+ *                     behind them, and everywhere if the sheet is refused, it keeps its bytes.
+ * answer, answer_len  the answer memory: 24 bytes for the six numbers, see pavebox_read_answer.
+ *
+ * Returns the ending or the refusal, which is also the first of the six numbers. If answer_len is
+ * not 24 it returns PAVEBOX_BAD_ANSWER and writes nothing.
+ *
+ * Each pointer is to that many bytes; with a length of 0 it may be NULL. The three ranges do not
+ * overlap. Both are the caller's duty. Alignment does not matter.
+ */
+uint32_t pavebox_run(const uint8_t *sheet, size_t sheet_len,
+                     uint8_t *output, size_t output_len,
+                     uint8_t *answer, size_t answer_len);
+
+/* The six numbers of an answer. After a refusal the last four are 0. */
+struct pavebox_answer {
+    uint32_t ending;    /* an ending or a refusal, as above */
+    uint32_t line;      /* the line that is refused, from 1; 0 if there is none */
+    uint32_t positions; /* letters of turns whose turns were taken */
+    uint32_t low_steps; /* letters L among them */
+    uint32_t written;   /* bytes of sent lines at the start of the output memory */
+    uint32_t taken;     /* message lines taken */
+};
+
+/* One number from four bytes, low byte first. */
+static inline uint32_t pavebox_read_number(const uint8_t *bytes)
+{
+    return (uint32_t)bytes[0] | (uint32_t)bytes[1] << 8 | (uint32_t)bytes[2] << 16
+           | (uint32_t)bytes[3] << 24;
+}
+
+/* The six numbers from the 24 bytes that pavebox_run has filled. */
+static inline struct pavebox_answer pavebox_read_answer(const uint8_t *answer)
+{
+    struct pavebox_answer numbers;
+    numbers.ending = pavebox_read_number(answer);
+    numbers.line = pavebox_read_number(answer + 4);
+    numbers.positions = pavebox_read_number(answer + 8);
+    numbers.low_steps = pavebox_read_number(answer + 12);
+    numbers.written = pavebox_read_number(answer + 16);
+    numbers.taken = pavebox_read_number(answer + 20);
+    return numbers;
+}
+
+#ifdef __cplusplus
+}
+#endif
+
+#endif
