@@ -1,2 +1,2 @@
--- The laws of the phases that the crates above cite.
+-- The laws of the `secret` and `msg` lines.
 pub mod Laws

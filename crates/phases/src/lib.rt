@@ -1,4 +1,4 @@
-// The phases that fill an array: the secrets, the messages and the turns. Each holds its array and gives it back once.
+// The `secret` lines and the `msg` lines. Each phase holds its array and gives it back once.
 use lines::Came;
 use lines::Found;
 use lines::first_line;
@@ -11,10 +11,9 @@ use model::EntrySlot;
 use model::Key;
 use model::KeySlot;
 use model::MessageLine;
-use text::find_byte;
 ghost use Prim.Native.Nat.{_+_, _<_, _≤_};
 ghost use lib.ListN.{length};
-ghost use Rattle.phases.specs.Meaning.{SecretsRead, MessagesRead, LetterKnown, LettersCopied, TurnsRead};
+ghost use Rattle.phases.specs.Meaning.{SecretsRead, MessagesRead};
 
 // The keys, and the least one that a further `secret` line may name.
 pub struct Secrets {
@@ -28,20 +27,6 @@ pub struct Messages {
     pub came: Came,
     pub count: usize,
     pub messages: [MessageLine; 32],
-}
-
-// The first count letters of the array.
-pub struct Turns {
-    pub came: Came,
-    pub count: usize,
-    pub letters: [u8; 1024],
-}
-
-// The first count letters of the array, where they passed.
-struct Letters {
-    pub passed: Passed,
-    pub count: usize,
-    pub letters: [u8; 1024],
 }
 
 // The `secret` lines at the start of s, of which the first has the number first.
@@ -131,96 +116,6 @@ pub fn read_messages(s: &[u8], keys: u64, first: u32) -> Messages
                         count += 1;
                         line += 1;
                         a = a + e + 1;
-                    }
-                }
-            }
-        }
-    }
-}
-
-fn is_letter(b: u8) -> bool
-    ensures { λ r. ⌜ LetterKnown b r ⌝ }
-{
-    if b == 76 {
-        return true;
-    }
-    b == 72
-}
-
-// What follows `turns=`, copied as it is tested.
-fn copy_letters(s: &[u8]) -> Letters
-    ensures { λ r. ⌜ LettersCopied (now (s .entry)) r ⌝ }
-{
-    let mut letters = [0u8; 1024];
-    if 1024 < s.len() {
-        return Letters {
-            passed: Passed::Bad(8),
-            count: 0,
-            letters,
-        };
-    }
-    if s.len() == 0 {
-        return Letters {
-            passed: Passed::Bad(9),
-            count: 0,
-            letters,
-        };
-    }
-    let mut i = 0;
-    while i < s.len() {
-        let b = s[i];
-        if !is_letter(b) {
-            return Letters {
-                passed: Passed::Bad(9),
-                count: 0,
-                letters,
-            };
-        }
-        letters[i] = b;
-        i += 1;
-    }
-    Letters {
-        passed: Passed::Fine,
-        count: i,
-        letters,
-    }
-}
-
-// The line `turns` at the start of s, and nothing after it.
-pub fn read_turns(s: &[u8], first: u32) -> Turns
-    requires { ⌜ first + length (now s) < 4294967296 ⌝ }
-    ensures { λ r. ⌜ TurnsRead (now (s .entry)) first r ⌝ }
-{
-    match first_line(s, b"turns=") {
-        Found::Other => Turns {
-            came: Came::Refused(3, first),
-            count: 0,
-            letters: [0u8; 1024],
-        },
-        Found::Until(e) => {
-            let copied = copy_letters(&s[6..e]);
-            let letters = copied.letters;
-            let count = copied.count;
-            let passed = copied.passed;
-            match passed {
-                Passed::Bad(r) => Turns {
-                    came: Came::Refused(r, first),
-                    count,
-                    letters,
-                },
-                Passed::Fine => {
-                    let rest = &s[e + 1..];
-                    if find_byte(rest, 10) < rest.len() {
-                        return Turns {
-                            came: Came::Refused(3, first + 1),
-                            count,
-                            letters,
-                        };
-                    }
-                    Turns {
-                        came: Came::To(first + 1, e + 1),
-                        count,
-                        letters,
                     }
                 }
             }

@@ -22,7 +22,7 @@ use Rattle.lines.specs.Meaning.{Reads, NumberRead, Ahead, phaseAs}
 use Rattle.lines.specs.declared.Came.{Came}
 use Rattle.lines.specs.declared.Came.the-variants.{To, Refused}
 use Rattle.lines.specs.declared.NumberLine.{NumberLine}
-use Rattle.phases.specs.Meaning.{readLast, ended}
+use Rattle.letters.specs.Meaning.{readLast, ended}
 use Rattle.program.specs.Meaning.{FirstFar}
 use Rattle.sheet.specs.Meaning.{Answers, readBody}
 use Rattle.sheet.specs.declared.Read.{Read}

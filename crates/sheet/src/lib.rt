@@ -1,4 +1,5 @@
 // A whole sheet: the job that it says, or the refusal that comes first.
+use letters::read_turns;
 use lines::Came;
 use lines::number_line;
 use model::Command;
@@ -11,7 +12,6 @@ use model::Op;
 use model::StoredJob;
 use phases::read_messages;
 use phases::read_secrets;
-use phases::read_turns;
 use program::first_far;
 use program::read_commands;
 use text::count_byte;

@@ -19,7 +19,7 @@ returns-2 c =
     let k = c .before .before in
     let u = sym (k .before .before .up-to .ensures) ∙ ap naturalAs (k .k .given .1) in
     let f = k .before .before .before .before .before in
-    sym (pair-order _ _ _ _ (f .find-byte .ensures) (k .before .before .before .before .if1 .left) _ u (c .if2 .taken))
+    sym (pair-order _ _ _ _ (f .find-byte .ensures) (k .before .before .before .before .if1 .left) _ u (omega arith))
 
 returns-3 : tie.Need-returns-3
 returns-3 c =

@@ -1,10 +1,10 @@
 -- The `secret` lines that are left, read into what the array holds, give what the whole phase gives.
 use Prim.Native.Nat.{_≤_, _<_, _+_, _-_}
-use mathlib.Core.Path.{_≡_, _∙_, sym, ap, refl}
+use mathlib.Core.Path.{_≡_, _∙_, sym, ap}
 use native.Mathlib.Omega.{arith}
 use borrow.Author.Needs.{needs}
 use lib.IntN.{ℤ}
-use lib.ListN.{length, length-set, take, drop}
+use lib.ListN.{length, take, drop}
 use mir.Syntax.{w32}
 use mir.Val.{toZ, ofZ}
 use mir.ValLaws.{toZ-ofZ}
@@ -24,7 +24,7 @@ use Rattle.phases.proofs.read_secrets.Statement.{statement}
 use Rattle.phases.proofs.read_secrets.Tie as tie
 
 abbrev Inv-loop : tie.InvT-loop
-Inv-loop s keys first slots₀ least₀ line₀ a₀ t14 slots least line a = Going (bytes "secret") (secretLine keys) (allOpen keys) s first line a (byKey keyIn keys least slots) × (length slots ≡ 8)
+Inv-loop s keys first slots₀ least₀ line₀ a₀ t14 slots least line a = Going (bytes "secret") (secretLine keys) (allOpen keys) s first line a (byKey keyIn keys least slots)
 
 abbrev μ-loop : tie.MeasureT-loop
 μ-loop s keys first slots₀ least₀ line₀ a₀ t14 slots least line a = length s - a
@@ -33,7 +33,7 @@ abbrev μ-loop : tie.MeasureT-loop
 bound : (c : tie.After-e Inv-loop μ-loop) → let l = c .before .before .before .before .before in l .loop .a + c .e .given .0 .0 + 1 ≤ length (l .before .before .args .s .now)
 bound c =
     let l = c .before .before .before .before .before in
-    going-bound secret-word (c .before .before .first-line .ensures) (l .loop .inv .0) (rest (l .before .before .args .s .now) (l .loop .a)) (c .e .given .1)
+    going-bound secret-word (c .before .before .first-line .ensures) (l .loop .inv) (rest (l .before .before .args .s .now) (l .loop .a)) (c .e .given .1)
 
 -- what it says, the value as the array holds it
 found : (c : tie.After-known-told3 Inv-loop μ-loop) →
@@ -57,7 +57,7 @@ returns : tie.Need-returns Inv-loop μ-loop
 unfolding readSecrets
 returns c =
     let l = c .before .before .before .before .before in
-    record { phase = going-left secret-word (c .before .before .first-line .ensures) (l .loop .inv .0) (rest (l .before .before .args .s .now) (l .loop .a)) (c .enum-told .given .1); long = l .loop .inv .1 }
+    record { phase = going-left secret-word (c .before .before .first-line .ensures) (l .loop .inv) (rest (l .before .before .args .s .now) (l .loop .a)) (c .enum-told .given .1) }
 
 returns-2 : tie.Need-returns-2 Inv-loop μ-loop
 unfolding readSecrets
@@ -65,14 +65,14 @@ returns-2 c =
     let e = c .before .before .before .before .before .before in
     let l = e .before .before .before .before .before in
     let b = sym (c .before .before .before .read-part .ensures) ∙ ap partAs (c .before .r .given .1) in
-    record { phase = going-bad secret-word (e .before .before .first-line .ensures) (l .loop .inv .0) (rest (l .before .before .args .s .now) (l .loop .a)) (e .e .given .1) (secret-bad _ _ _ _ _ b); long = l .loop .inv .1 }
+    record { phase = going-bad secret-word (e .before .before .first-line .ensures) (l .loop .inv) (rest (l .before .before .args .s .now) (l .loop .a)) (e .e .given .1) (secret-bad _ _ _ _ _ b) }
 
 loop-again : tie.Need-loop-again Inv-loop μ-loop
 loop-again c =
     let e = c .before .before .before .before .before .before in
     let l = e .before .before .before .before .before in
     let o = secret-ok _ _ (l .loop .slots) _ _ _ (l .before .before .pre .0) (found c) in
-    (going-more secret-word (e .before .before .first-line .ensures) (l .loop .inv .0) (rest (l .before .before .args .s .now) (l .loop .a)) (e .e .given .1) _ o, simp length-set (l .loop .inv .1))
+    going-more secret-word (e .before .before .first-line .ensures) (l .loop .inv) (rest (l .before .before .args .s .now) (l .loop .a)) (e .e .given .1) _ o
 
 pub read-secrets-spec : {M : Type 1} → statement M
 read-secrets-spec =
@@ -80,7 +80,7 @@ read-secrets-spec =
     (tie.spec
     Inv-loop
     μ-loop
-    (λ c. (going-on _ (by-key-blank keyIn _ 8 (record { key = Open }) (c .before .pre .1)), refl))
+    (λ c. going-on _ (by-key-blank keyIn _ 8 (record { key = Open }) (c .before .pre .1)))
     (λ c. omega arith)
     (λ c. omega arith)
     (λ c. omega arith)

@@ -13,9 +13,9 @@ use Rattle.message.specs.declared.Passed.{Passed}
 use Rattle.lines.specs.Meaning.{Reads}
 use Rattle.lines.specs.declared.Came.the-variants.{To}
 use Rattle.lines.proofs.Laws.{placed, one-other, one-bad, one-ok}
-use Rattle.phases.proofs.Laws.{turns-word, last-refused, last-more, last-none}
-use Rattle.phases.proofs.read_turns.Statement.{statement}
-use Rattle.phases.proofs.read_turns.Tie as tie
+use Rattle.letters.proofs.Laws.{turns-word, last-refused, last-more, last-none}
+use Rattle.letters.proofs.read_turns.Statement.{statement}
+use Rattle.letters.proofs.read_turns.Tie as tie
 
 -- the line passed
 passed : (c : tie.After-enum-told2) →

@@ -8,9 +8,9 @@ use borrow.Author.Tests.{not-true, not-false}
 use lib.ListN.{length, take, drop, length-set}
 use Rattle.model.specs.Job.{levelOf}
 use Rattle.model.specs.Line.{letters, turnsLine}
-use Rattle.phases.proofs.Laws.{onto, onto-none, letters-end, letters-bad, letters-next, letter-is, letter-is-not, turns-long, turns-none, turns-letters}
-use Rattle.phases.proofs.copy_letters.Statement.{statement}
-use Rattle.phases.proofs.copy_letters.Tie as tie
+use Rattle.letters.proofs.Laws.{onto, onto-none, letters-end, letters-bad, letters-next, letter-is, letter-is-not, turns-long, turns-none, turns-letters}
+use Rattle.letters.proofs.copy_letters.Statement.{statement}
+use Rattle.letters.proofs.copy_letters.Tie as tie
 
 abbrev Inv-loop : tie.InvT-loop
 Inv-loop s letters₀ i₀ copy i = (i ≤ length s) × (length copy ≡ 1024) × (onto (map levelOf (take i copy)) (letters (drop i s)) ≡ turnsLine s)
