@@ -14,6 +14,7 @@ use Rattle.model.specs.Parsed.{Parsed, ok, bad, need, _>>=_, _>>_}
 use Rattle.model.specs.Number.{digits, digitsTo, within, upTo, fromOne, natural, negative, positive, number}
 use Rattle.model.specs.Bytes.{find, count, classOf, between}
 use Rattle.model.specs.Reading.{forbiddenLine, closed}
+use Rattle.text.specs.Forbidden.{forbiddenPlace}
 use Rattle.text.specs.Prefix.{starts}
 
 -- one byte of what is left
@@ -35,21 +36,41 @@ pub find-end : (c : ℕ) (s : List ℕ) (i : ℕ) → length s ≤ i → find c 
 unfolding find
 find-end c s i h = rw (done s i h)
 
-pub forbidden-here : (n : ℕ) (s : List ℕ) (i : ℕ) → i < length s → classOf (getD s i 0) ≡ 10 → forbiddenLine n (drop i s) ≡ n
-unfolding forbiddenLine
-forbidden-here n s i h e = rw (uncons s i h, eq-eqb _ _ e)
+pub forbidden-here : (s : List ℕ) (i : ℕ) → i < length s → classOf (getD s i 0) ≡ 10 → forbiddenPlace (drop i s) ≡ 0
+unfolding forbiddenPlace
+forbidden-here s i h e = rw (uncons s i h, eq-eqb _ _ e)
 
-pub forbidden-feed : (n : ℕ) (s : List ℕ) (i : ℕ) → i < length s → (classOf (getD s i 0) ≡ 10 → ⊥) → getD s i 0 ≡ 10 → forbiddenLine n (drop i s) ≡ forbiddenLine (n + 1) (drop (i + 1) s)
-unfolding forbiddenLine
-forbidden-feed n s i h e f = rw (uncons s i h, ne-eqb _ _ e, eq-eqb _ _ f)
+pub forbidden-next : (s : List ℕ) (i : ℕ) → i < length s → (classOf (getD s i 0) ≡ 10 → ⊥) → forbiddenPlace (drop i s) ≡ suc (forbiddenPlace (drop (i + 1) s))
+unfolding forbiddenPlace
+forbidden-next s i h e = rw (uncons s i h, ne-eqb _ _ e)
 
-pub forbidden-next : (n : ℕ) (s : List ℕ) (i : ℕ) → i < length s → (classOf (getD s i 0) ≡ 10 → ⊥) → (getD s i 0 ≡ 10 → ⊥) → forbiddenLine n (drop i s) ≡ forbiddenLine n (drop (i + 1) s)
-unfolding forbiddenLine
-forbidden-next n s i h e f = rw (uncons s i h, ne-eqb _ _ e, ne-eqb _ _ f)
+pub forbidden-end : (s : List ℕ) (i : ℕ) → length s ≤ i → forbiddenPlace (drop i s) ≡ 0
+unfolding forbiddenPlace
+forbidden-end s i h = rw (done s i h)
 
-pub forbidden-end : (n : ℕ) (s : List ℕ) (i : ℕ) → length s ≤ i → forbiddenLine n (drop i s) ≡ 0
-unfolding forbiddenLine
-forbidden-end n s i h = rw (done s i h)
+-- the line of the first forbidden byte, by its place
+pub forbidden-none : (n : ℕ) (s : List ℕ) → length s ≤ forbiddenPlace s → forbiddenLine n s ≡ 0
+unfolding forbiddenLine forbiddenPlace
+forbidden-none n [] h = refl
+forbidden-none n (b ∷ bs) h = go (eqb (classOf b) 10) (λ m g. forbidden-none m bs g) h
+  where
+    go : (t : Bool) → ((m : ℕ) → length bs ≤ forbiddenPlace bs → forbiddenLine m bs ≡ 0) → suc (length bs) ≤ cond t 0 (suc (forbiddenPlace bs)) → cond t n (forbiddenLine (cond (eqb b 10) (n + 1) n) bs) ≡ 0
+    go true rest g = absurd (omega arith)
+    go false rest g = rest _ (omega arith)
+
+pub forbidden-found : (n : ℕ) (s : List ℕ) → forbiddenPlace s < length s → forbiddenLine n s ≡ n + count 10 (take (forbiddenPlace s) s)
+unfolding forbiddenLine forbiddenPlace count
+forbidden-found n [] h = absurd (omega arith)
+forbidden-found n (b ∷ bs) h = go (eqb (classOf b) 10) (λ m g. forbidden-found m bs g) h
+  where
+    line : (t : Bool) (c : ℕ) → cond t (n + 1) n + c ≡ n + cond t (suc c) c
+    line true c = omega arith
+    line false c = refl
+
+    go : (t : Bool) → ((m : ℕ) → forbiddenPlace bs < length bs → forbiddenLine m bs ≡ m + count 10 (take (forbiddenPlace bs) bs)) → cond t 0 (suc (forbiddenPlace bs)) < suc (length bs)
+        → cond t n (forbiddenLine (cond (eqb b 10) (n + 1) n) bs) ≡ n + count 10 (take (cond t 0 (suc (forbiddenPlace bs))) (b ∷ bs))
+    go true rest g = omega arith
+    go false rest g = rest (cond (eqb b 10) (n + 1) n) (omega arith) ∙ line (eqb b 10) (count 10 (take (forbiddenPlace bs) bs))
 
 nonzero : (t : Bool) (x y : ℕ) → (x ≡ 0 → ⊥) → (y ≡ 0 → ⊥) → cond t x y ≡ 0 → ⊥
 nonzero true x y f g e = f e
@@ -200,6 +221,15 @@ count-next c s i h n = rw (uncons s i h, ne-eqb _ _ n)
 pub count-end : (c : ℕ) (s : List ℕ) (i : ℕ) → length s ≤ i → count c (drop i s) ≡ 0
 unfolding count
 count-end c s i h = rw (done s i h)
+
+pub count-most : (c : ℕ) (s : List ℕ) → count c s ≤ length s
+unfolding count
+count-most c [] = omega arith
+count-most c (b ∷ bs) = go (eqb b c) (count-most c bs)
+  where
+    go : (t : Bool) → count c bs ≤ length bs → cond t (suc (count c bs)) (count c bs) ≤ suc (length bs)
+    go true h = omega arith
+    go false h = omega arith
 
 -- the last byte
 pub closed-empty : (s : List ℕ) → length s ≡ 0 → closed s ≡ false

@@ -11,6 +11,7 @@ ghost use Rattle.model.specs.Bytes.{classOf, find, count};
 ghost use Rattle.model.specs.Number.{digitsTo, upTo, fromOne, negative, positive, number};
 ghost use Rattle.model.specs.Reading.{forbiddenLine, closed};
 ghost use Rattle.text.specs.Meaning.{naturalAs, wholeAs};
+ghost use Rattle.text.specs.Forbidden.{forbiddenPlace};
 ghost use Rattle.text.specs.Prefix.{starts};
 
 // A number from 0 to a limit, or none.
@@ -31,25 +32,32 @@ pub fn class_of(b: u8) -> u8
     CLASSES[b as usize]
 }
 
-// The line of the first forbidden byte, or 0 where there is none.
-pub fn forbidden_line(s: &[u8]) -> usize
-    ensures { λ r. ⌜ r ≡ forbiddenLine 1 (now (s .entry)) ⌝ }
+// The place of the first forbidden byte, or the length where there is none.
+fn forbidden_place(s: &[u8]) -> usize
+    ensures { λ r. ⌜ r ≡ forbiddenPlace (now (s .entry)) ⌝ }
 {
     let table = CLASSES;
-    let mut line: usize = 1;
     let mut i = 0;
     while i < s.len() {
         let b = s[i];
         let class = table[b as usize];
         if class == 10 {
-            return line;
-        }
-        if b == 10 {
-            line += 1;
+            return i;
         }
         i += 1;
     }
-    0
+    i
+}
+
+// The line of the first forbidden byte, or 0 where there is none. The lines before it are counted only once it is found.
+pub fn forbidden_line(s: &[u8]) -> usize
+    ensures { λ r. ⌜ r ≡ forbiddenLine 1 (now (s .entry)) ⌝ }
+{
+    let i = forbidden_place(s);
+    if s.len() <= i {
+        return 0;
+    }
+    1 + count_byte(&s[..i], 10)
 }
 
 // The place of the first c, or the length where there is none.

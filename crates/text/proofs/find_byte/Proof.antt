@@ -1,3 +1,4 @@
+-- What is passed and what is still to search make up the place.
 use Rattle.text.proofs.Laws.{find-here, find-next, find-end}
 use Rattle.model.specs.Bytes.{find}
 use lib.ListN.{length, drop}

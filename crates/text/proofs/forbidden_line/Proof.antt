@@ -1,50 +1,33 @@
--- What is still to scan gives what the whole gives; `line` is the line of byte `i`.
-use Prim.Native.Nat.{_≤_, _+_, _-_}
-use mathlib.Core.Logic.{⊎-elim}
-use mathlib.Core.Path.{_≡_, _∙_, sym}
+-- No forbidden byte, or the line feeds before the first.
+use mathlib.Core.Path.{sym, ap, _∙_}
 use native.Mathlib.Omega.{arith}
-use lib.ListN.{length, drop, getD}
-use Rattle.model.specs.Bytes.{classOf}
-use Rattle.model.specs.Reading.{forbiddenLine}
-use Rattle.text.proofs.Laws.{forbidden-here, forbidden-feed, forbidden-next, forbidden-end}
-use Rattle.text.proofs.Table.{class-at}
+use borrow.Author.Needs.{needs}
+use Prim.Native.Nat.{ℕ, _+_, _<_}
+use lib.ListN.{length, take}
+use Rattle.model.specs.Bytes.{count}
+use lib.Seq.{length-take-le}
+use Rattle.text.proofs.Laws.{forbidden-none, forbidden-found, count-most}
 use Rattle.text.proofs.forbidden_line.Statement.{statement}
 use Rattle.text.proofs.forbidden_line.Tie as tie
 
-abbrev Inv-loop : tie.InvT-loop
-Inv-loop s table line₀ i₀ line i = (i ≤ length s) × (line ≤ i + 1) × (forbiddenLine line (drop i s) ≡ forbiddenLine 1 s)
-
-abbrev μ-loop : tie.MeasureT-loop
-μ-loop s table line₀ i₀ line i = length s - i
-
-cast-class : tie.Need-cast-class Inv-loop μ-loop
-cast-class c = omega (arith, c .shared-slice-known .given (c .before .before .loop .i))
-
-array-read-class : tie.Need-array-read-class Inv-loop μ-loop
-array-read-class c = omega (arith, c .shared-slice-known .given (c .before .before .loop .i))
-
-returns : tie.Need-returns Inv-loop μ-loop
+returns : tie.Need-returns
 returns c =
-    let l = c .before .before .before .loop in
-    let s = c .before .before .before .before .args .s .now in
-    let h = c .before .before .loop-test .taken in
-    let r = class-at (getD s (l .i) 0) (omega (arith, c .before .shared-slice-known .given (l .i))) in
-    cc (forbidden-here (l .line) s (l .i) h (sym r ∙ c .if1 .taken))
+    let s = c .before .before .before .args .s .now in
+    sym (forbidden-none 1 s (omega (arith, c .before .forbidden-place .ensures, c .if1 .taken)))
 
-loop-again : tie.Need-loop-again Inv-loop μ-loop
-loop-again c =
-    let l = c .before .before .before .before .loop in
+add-result : tie.Need-add-result
+add-result c =
     let s = c .before .before .before .before .before .args .s .now in
-    let h = c .before .before .before .loop-test .taken in
-    let r = class-at (getD s (l .i) 0) (omega (arith, c .before .before .shared-slice-known .given (l .i))) in
-    let n : (classOf (getD s (l .i) 0) ≡ 10 → ⊥) = λ e. c .before .if1 .left (r ∙ e) in (
-      omega arith,
-      ⊎-elim (λ w. omega arith) (λ w. omega arith) (c .if2 .came),
-      ⊎-elim (λ w. cc (forbidden-feed (l .line) s (l .i) h n (w .0 .taken))) (λ w. cc (forbidden-next (l .line) s (l .i) h n (w .0 .left))) (c .if2 .came),
-    )
+    let i = c .before .before .before .forbidden-place .result in
+    let below : i < length s = c .before .before .if1 .left in
+    omega (arith, c .count-byte .ensures, count-most 10 (take i s), length-take-le i s (omega arith))
 
-returns-2 : tie.Need-returns-2 Inv-loop μ-loop
-returns-2 c = sym (forbidden-end _ _ _ (c .loop-test .left)) ∙ c .before .loop .inv .2
+returns-2 : tie.Need-returns-2
+returns-2 c =
+    let s = c .before .before .before .before .before .args .s .now in
+    let e = c .before .before .before .forbidden-place .ensures in
+    let below : c .before .before .before .forbidden-place .result < length s = c .before .before .if1 .left in
+    ap (λ (n : ℕ). 1 + n) (c .count-byte .ensures ∙ ap (λ (i : ℕ). count 10 (take i s)) e) ∙ sym (forbidden-found 1 s (omega (arith, e)))
 
 pub forbidden-line-spec : {M : Type 1} → statement M
-forbidden-line-spec = tie.close (tie.spec Inv-loop μ-loop (λ c. omega arith) (λ c. omega arith) cast-class array-read-class returns (λ c. omega arith) (λ c. omega arith) (λ c. omega arith) loop-again returns-2)
+forbidden-line-spec = tie.close (tie.spec (λ c κs. search needs) returns (λ c. sym (length-take-le _ _ (omega arith))) (λ c κs. search needs) add-result returns-2)

@@ -1,3 +1,4 @@
+-- A number from 1 to the least's magnitude, negated by way of an i64.
 use Rattle.model.specs.Number.{upTo}
 use mir.Syntax.{w64}
 use mir.ValLaws.{toZ-ofZ}

@@ -1,3 +1,4 @@
+-- Nothing, a minus sign, or a number without one.
 use Rattle.model.specs.Number.{negative}
 use Rattle.text.proofs.Laws.{rest}
 use Rattle.text.proofs.Laws.{number-empty, number-minus, number-plain}

@@ -1,3 +1,4 @@
+-- A number up to the greatest, as an i32.
 use Rattle.model.specs.Number.{upTo}
 use Rattle.text.specs.Meaning.{naturalAs}
 use mir.ValLaws.{toZ-pos}

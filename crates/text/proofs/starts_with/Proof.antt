@@ -1,3 +1,4 @@
+-- The prefix that is still to compare starts what is left of the text, as the whole starts the whole.
 use Rattle.text.proofs.Laws.{starts-short, starts-end, starts-next, starts-differ}
 use Rattle.text.specs.Prefix.{starts}
 use lib.ListN.{length, drop}

@@ -1,3 +1,4 @@
+-- Nothing, one byte, a leading zero, or digits.
 use Rattle.text.proofs.Laws.{up-to-empty, up-to-one, up-to-zero, up-to-more}
 use mathlib.Core.Path.{_∙_, sym}
 use borrow.Author.Needs.{needs}
