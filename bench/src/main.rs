@@ -45,7 +45,7 @@ fn main() -> ExitCode {
 }
 
 fn usage() -> String {
-    "usage: bench\n       bench archive|plain COUNT [all|long|short]\n       bench sheets FOLDER"
+    "usage: bench\n       bench archive|plain COUNT [all|long|short|largest]\n       bench sheets FOLDER"
         .to_string()
 }
 
@@ -53,6 +53,7 @@ fn compare_and_time() -> Result<(), String> {
     let (long, short) = (sheets::long(), sheets::short());
     compare(&long)?;
     compare(&short)?;
+    compare(&sheets::largest())?;
     println!("archive and plain agree on all sheets");
     print!("{}", timing::report(&long, &short));
     Ok(())
@@ -78,6 +79,7 @@ fn run_one(side: Side, count: &str, name: &str) -> Result<(), String> {
         "all" => vec![sheets::long(), sheets::short()],
         "long" => vec![sheets::long()],
         "short" => vec![sheets::short()],
+        "largest" => vec![sheets::largest()],
         _ => return Err(usage()),
     };
     for _ in 0..count {
@@ -100,7 +102,7 @@ fn pass(side: Side, half: &Sheets) {
 
 /// Writes each sheet to a file of its own.
 fn write_sheets(folder: &str) -> Result<(), String> {
-    for half in [sheets::long(), sheets::short()] {
+    for half in [sheets::long(), sheets::short(), sheets::largest()] {
         for (place, sheet) in half.sheets.iter().enumerate() {
             let file = Path::new(folder).join(format!("{}_{place:03}.txt", half.name));
             let failed = |error| format!("{}: {error}", file.display());

@@ -1,7 +1,7 @@
 //! The sheets of the comparison: the same 500 every time.
 
 use reference::generate::{accepted, Rng, Shape};
-use reference::model::LENT;
+use reference::model::{LENT, LOWEST, MOST_COMMANDS, MOST_KEYS, MOST_MESSAGES, MOST_TURNS};
 use reference::run_sheet;
 
 const SEED: u64 = 2026;
@@ -62,6 +62,23 @@ pub fn short() -> Sheets {
         }
     }
     short
+}
+
+/// The largest sheet: as many lines of every kind as the rules allow, each as long as it can be. The
+/// program stops at once, so that reading is nearly all of the work.
+pub fn largest() -> Sheets {
+    let entries: Vec<String> = (0..MOST_KEYS).map(|key| format!("{key}:{LOWEST}")).collect();
+    let secrets: String = entries.iter().map(|entry| format!("secret={entry}\n")).collect();
+    let commands = format!("do=set 7 {LOWEST}\n").repeat(MOST_COMMANDS - 1);
+    let messages = format!("msg={}\n", entries.join(",")).repeat(MOST_MESSAGES);
+    let turns = "L".repeat(MOST_TURNS);
+    let sheet = format!(
+        "sheet=1\nkeys={MOST_KEYS}\n{secrets}do=stop\n{commands}{messages}turns={turns}\n"
+    );
+    let positions = positions(sheet.as_bytes());
+    let mut largest = Sheets::new("largest");
+    largest.add(sheet.into_bytes(), positions);
+    largest
 }
 
 /// The positions that a run uses.

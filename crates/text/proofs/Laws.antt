@@ -32,6 +32,13 @@ pub find-next : (c : ℕ) (s : List ℕ) (i : ℕ) → i < length s → (getD s 
 unfolding find
 find-next c s i h n = rw (uncons s i h, ne-eqb _ _ n)
 
+pub find-later : (c : ℕ) (s : List ℕ) (i : ℕ) → i + 1 < length s → (getD s i 0 ≡ c → ⊥) → (getD s (i + 1) 0 ≡ c → ⊥) → find c (drop i s) ≡ 2 + find c (drop (i + 2) s)
+find-later c s i h n m =
+    let k : i < length s = omega arith in
+    let q : i + 1 + 1 ≡ i + 2 = omega arith in
+    let e = ap (λ (j : ℕ). find c (drop j s)) q in
+    omega (arith, find-next c s i k n, find-next c s (i + 1) h m, e)
+
 pub find-end : (c : ℕ) (s : List ℕ) (i : ℕ) → length s ≤ i → find c (drop i s) ≡ 0
 unfolding find
 find-end c s i h = rw (done s i h)
