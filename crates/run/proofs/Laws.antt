@@ -1,5 +1,5 @@
 -- What a loop over the letters keeps of the model's run, one law for each kind of turn, over plain variables.
-use Prim.Native.Nat.{ℕ, zero, suc, _+_, _-_, _*_, _<_, _≤_}
+use Prim.Native.Nat.{ℕ, suc, _+_, _-_, _<_, _≤_}
 use mathlib.Core.Path.{_≡_, refl, sym, ap, ap₂, subst, _∙_}
 use mathlib.Core.Bool.{Bool, true, false, cond, true≢false}
 use mathlib.Core.List.{List, [], _∷_, _++_, map}
@@ -17,12 +17,11 @@ use borrow.Author.Tests.{lt-ltb, le-ltb, lt-leb, le-leb, eq-eqb, ne-eqb}
 use Rattle.model.specs.Commands.{blank}
 use Rattle.model.specs.Execution.{begun, calledOf, calling, variable, doesBy, does, callOf}
 use Rattle.model.specs.Job.{levelOf}
-use Rattle.model.specs.Run.{Process, Sent, Common, State, Outcome, entry, refill, stored, step, command, stopped, at, put, each, process, fieldsOf, received, takes, receive, columns, send, share, lead, waits, followed, follow, counted, turn, lineLength, written, short, allUsed, noRoom, verdictBy, verdict, ended, settle, run, fresh, initial}
+use Rattle.model.specs.Run.{Process, Sent, Common, State, entry, refill, stored, step, command, stopped, at, put, each, process, fieldsOf, received, takes, receive, columns, send, share, lead, waits, followed, follow, counted, turn, lineLength, written, short, allUsed, noRoom, verdictBy, verdict, ended, run, fresh, initial}
 use Rattle.model.specs.declared.Call.{Call}
 use Rattle.model.specs.declared.Call.the-variants.{Neither, Receives, Sends}
 use Rattle.model.specs.declared.Command.{Command}
 use Rattle.model.specs.declared.Ending.{Ending}
-use Rattle.model.specs.declared.Ending.the-variants.{Stopped, LettersUsed, NoRoom}
 use Rattle.model.specs.declared.Entry.{Entry}
 use Rattle.model.specs.declared.Entry.the-variants.{Absent}
 use Rattle.model.specs.declared.Execution.{Execution}
@@ -126,22 +125,18 @@ module _ (n : ℕ) (c : Command) (x : Execution) (e : Entry) (r : Stepped) (is :
 
 -- ---- The loop
 
-module _ (ks : List Key) (cs : List Command) (room : ℕ) (ms : List (List Entry)) (ls : List Level) where
-  -- what the loop keeps: what is still to run gives what the whole run gives, and every count has its bound
-  pub record Runs (low : Execution) (L : List Entry) (high : Execution) (H : List Entry) (taken : ℕ) (sent : List Sent) (at steps : ℕ) : Type 0 where
-    pub runs : run ks cs room (stateOf low L high H (drop taken ms) taken sent at steps) (drop at ls) ≡ run ks cs room (initial ks ms) ls
-    pub within : at ≤ length ls
-    pub few : steps ≤ at
-    pub low-place : low .place ≤ length cs
-    pub high-place : high .place ≤ length cs
-    pub low-calls : low .calls ≤ at
-    pub high-calls : high .calls ≤ at
-    pub lines : taken ≤ length ms
+-- what the loop keeps: what is still to run gives what the whole run gives, and every count has its bound
+pub record Runs (ks : List Key) (cs : List Command) (room : ℕ) (ms : List (List Entry)) (ls : List Level) (low : Execution) (L : List Entry) (high : Execution) (H : List Entry) (taken : ℕ) (sent : List Sent) (at steps : ℕ) : Type 0 where
+  pub runs : run ks cs room (stateOf low L high H (drop taken ms) taken sent at steps) (drop at ls) ≡ run ks cs room (initial ks ms) ls
+  pub within : at ≤ length ls
+  pub few : steps ≤ at
+  pub low-place : low .place ≤ length cs
+  pub high-place : high .place ≤ length cs
+  pub low-calls : low .calls ≤ at
+  pub high-calls : high .calls ≤ at
+  pub lines : taken ≤ length ms
 
-  pub begins : Runs begun (replicate (length ks) Absent) begun (replicate (length ks) Absent) 0 [] 0 0
-  unfolding initial fresh
-  begins = record { runs = refl; within = omega arith; few = omega arith; low-place = omega arith; high-place = omega arith; low-calls = omega arith; high-calls = omega arith; lines = omega arith }
-
+module _ (ks : List Key) (cs : List Command) (room : ℕ) where
   settled : (s : State) (rest : List Level) (e : Ending) → verdict ks cs room rest s ≡ Ends e → run ks cs room s rest ≡ ended ks e s
   unfolding run
   settled s [] e v = rw v
@@ -151,13 +146,18 @@ module _ (ks : List Key) (cs : List Command) (room : ℕ) (ms : List (List Entry
   unfolding run
   taken-on s l rest v = rw v
 
-  module _ (low : Execution) (L : List Entry) (high : Execution) (H : List Entry) (taken : ℕ) (sent : List Sent) (at steps : ℕ) (k : Runs low L high H taken sent at steps) where
+module _ {ks : List Key} {cs : List Command} {room : ℕ} {ms : List (List Entry)} {ls : List Level} where
+  pub begins : Runs ks cs room ms ls begun (replicate (length ks) Absent) begun (replicate (length ks) Absent) 0 [] 0 0
+  unfolding initial fresh
+  begins = record { runs = refl; within = omega arith; few = omega arith; low-place = omega arith; high-place = omega arith; low-calls = omega arith; high-calls = omega arith; lines = omega arith }
+
+  module _ {low : Execution} {L : List Entry} {high : Execution} {H : List Entry} {taken : ℕ} {sent : List Sent} {at steps : ℕ} (k : Runs ks cs room ms ls low L high H taken sent at steps) where
     abbrev here : State
     here = stateOf low L high H (drop taken ms) taken sent at steps
 
     -- an ending
     pub ends : (e : Ending) → verdict ks cs room (drop at ls) here ≡ Ends e → run ks cs room (initial ks ms) ls ≡ ended ks e here
-    ends e v = sym (k .runs) ∙ settled here (drop at ls) e v
+    ends e v = sym (k .runs) ∙ settled ks cs room here (drop at ls) e v
 
     -- a turn that is taken: a letter is left, and the low execution has not stopped
     module _ (v : verdict ks cs room (drop at ls) here ≡ GoesOn) (more : at < length ls) (live : low .place < length cs) where
@@ -168,7 +168,7 @@ module _ (ks : List Key) (cs : List Command) (room : ℕ) (ms : List (List Entry
       turned l isL s e =
           let here-is : drop at ls ≡ l ∷ drop (at + 1) ls = next ∙ ap (λ (m : Level). m ∷ drop (at + 1) ls) isL in
           ap (λ (t : State). run ks cs room t (drop (at + 1) ls)) (sym e)
-          ∙ sym (taken-on here l (drop (at + 1) ls) (ap (λ (m : List Level). verdict ks cs room m here) (sym here-is) ∙ v))
+          ∙ sym (taken-on ks cs room here l (drop (at + 1) ls) (ap (λ (m : List Level). verdict ks cs room m here) (sym here-is) ∙ v))
           ∙ ap (run ks cs room here) (sym here-is)
           ∙ k .runs
 
@@ -183,7 +183,7 @@ module _ (ks : List Key) (cs : List Command) (room : ℕ) (ms : List (List Entry
         -- a command that is no call
         pub after-command : callOf (commandAt cs (low .place) .op) ≡ Neither → commandAt cs (low .place) .t ≤ length cs
             → (r : Stepped) → r ≡ does (length cs) (commandAt cs (low .place)) low (getD L (commandAt cs (low .place) .k) Absent)
-            → Runs (r .execution) (set L (commandAt cs (low .place) .k) (r .entry)) high H taken sent (at + 1) (steps + 1)
+            → Runs ks cs room ms ls (r .execution) (set L (commandAt cs (low .place) .k) (r .entry)) high H taken sent (at + 1) (steps + 1)
         unfolding share put Rattle.model.specs.Run.at counted step entry
         after-command e t r is =
             record {
@@ -214,7 +214,7 @@ module _ (ks : List Key) (cs : List Command) (room : ℕ) (ms : List (List Entry
             go (no h) = let n : length ms ≤ taken = omega arith in rw (le-ltb _ _ n) (k .lines)
 
         pub after-receive : callOf (commandAt cs (low .place) .op) ≡ Receives → (t : ℕ) → t ≡ cond (ltb taken (length ms)) (taken + 1) taken
-            → Runs (calledOf low) (received ks (drop taken ms) Low) high (received ks (drop taken ms) High) t sent (at + 1) (steps + 1)
+            → Runs ks cs room ms ls (calledOf low) (received ks (drop taken ms) Low) high (received ks (drop taken ms) High) t sent (at + 1) (steps + 1)
         unfolding share receive each refill put Rattle.model.specs.Run.at counted
         after-receive e t is =
             record {
@@ -239,7 +239,7 @@ module _ (ks : List Key) (cs : List Command) (room : ℕ) (ms : List (List Entry
             }
 
         pub after-send : callOf (commandAt cs (low .place) .op) ≡ Sends
-            → Runs (calledOf low) L high H taken (sent ++ (record { position = at; columns = columns 0 ks (fieldsOf here) } ∷ [])) (at + 1) (steps + 1)
+            → Runs ks cs room ms ls (calledOf low) L high H taken (sent ++ (record { position = at; columns = columns 0 ks (fieldsOf here) } ∷ [])) (at + 1) (steps + 1)
         unfolding share send put Rattle.model.specs.Run.at counted
         after-send e =
             record {
@@ -289,7 +289,7 @@ module _ (ks : List Key) (cs : List Command) (room : ℕ) (ms : List (List Entry
         moves false false p q e = refl
 
         pub after-idle : idlesBy (leb (length cs) (high .place)) (callOf (commandAt cs (high .place) .op)) (low .calls) (high .calls) ≡ true
-            → Runs low L high H taken sent (at + 1) steps
+            → Runs ks cs room ms ls low L high H taken sent (at + 1) steps
         after-idle e =
             record {
               runs = turned High isH _ (follows ∙ ap withHigh (idle (leb (length cs) (high .place)) (waitsBy (callOf (commandAt cs (high .place) .op)) (low .calls) (high .calls)) highNow (step (length cs) (commandAt cs (high .place)) highNow) e) ∙ ap (λ (n : ℕ). stateOf low L high H (drop taken ms) taken sent (at + 1) n) (add-zero steps));
@@ -304,7 +304,7 @@ module _ (ks : List Key) (cs : List Command) (room : ℕ) (ms : List (List Entry
 
         pub after-high : idlesBy (leb (length cs) (high .place)) (callOf (commandAt cs (high .place) .op)) (low .calls) (high .calls) ≡ false → high .place < length cs → commandAt cs (high .place) .t ≤ length cs
             → (r : Stepped) → r ≡ does (length cs) (commandAt cs (high .place)) high (getD H (commandAt cs (high .place) .k) Absent)
-            → Runs low L (r .execution) (set H (commandAt cs (high .place) .k) (r .entry)) taken sent (at + 1) steps
+            → Runs ks cs room ms ls low L (r .execution) (set H (commandAt cs (high .place) .k) (r .entry)) taken sent (at + 1) steps
         unfolding step entry
         after-high e up t r is =
             record {

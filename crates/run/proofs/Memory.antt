@@ -1,14 +1,14 @@
 -- What the loop keeps of the output memory: there are lines sent, whose bytes stand at its start.
-use Prim.Native.Nat.{ℕ, zero, suc, _+_, _-_, _*_, _<_, _≤_}
+use Prim.Native.Nat.{ℕ, suc, _+_, _-_, _*_, _≤_}
 use mathlib.Core.Path.{_≡_, refl, sym, ap, ap₂, _∙_}
 use mathlib.Core.List.{List, [], _∷_, _++_, append-assoc, append-nil}
 use native.Mathlib.Numerals.{add-one}
 use native.Mathlib.Nat.{mul-suc, zero-add}
 use native.Mathlib.Omega.{arith}
-use lib.ListN.{length, getD, take, drop, replicate, length-append}
-use Rattle.model.specs.Run.{Sent, State, Outcome, at, process, fieldsOf, source, columns, lineLength, written, ended, run, initial}
+use lib.ListN.{length, getD, drop, length-append}
+use Rattle.model.specs.Run.{Sent, State, Outcome, at, fieldsOf, source, columns, lineLength, written, ended}
 use Rattle.model.specs.Output.{lineBytes, bytesOf, memoryAfter}
-use Rattle.model.specs.Answer.{Left, leftBy}
+use Rattle.model.specs.Answer.{leftBy}
 use Rattle.model.proofs.Bytes.{line-length}
 use Rattle.model.specs.declared.Answer.the-variants.{Ended}
 use Rattle.model.specs.declared.Command.{Command}
@@ -24,7 +24,7 @@ use Rattle.output.specs.Views.{lineOf}
 use Rattle.output.proofs.Places.{placed-nil, placed-append}
 use Rattle.output.proofs.Laws.{columns-length}
 use Rattle.run.specs.Ready.{left}
-use Rattle.run.proofs.Laws.{stateOf, Runs, begins, ends}
+use Rattle.run.proofs.Laws.{stateOf, Runs}
 
 pub record Kept (ks : List Key) (cs : List Command) (ms : List (List Entry)) (ls : List Level) (out₀ : List ℕ) (low : Execution) (L : List Entry) (high : Execution) (H : List Entry) (taken at steps written : ℕ) (out : List ℕ) : Type 0 where
   pub sent : List Sent
@@ -54,12 +54,12 @@ memory-is : (m : List ℕ) (ls : List Sent) → placed m 0 (bytesOf ls) ≡ memo
 unfolding placed memoryAfter
 memory-is m ls = ap (λ (n : ℕ). bytesOf ls ++ drop n m) (zero-add (length (bytesOf ls)))
 
-module _ (ks : List Key) (cs : List Command) (ms : List (List Entry)) (ls : List Level) (out₀ : List ℕ) where
-  pub started : (low high : Execution) (L H : List Entry) → Runs ks cs (length out₀) ms ls low L high H 0 [] 0 0 → Kept ks cs ms ls out₀ low L high H 0 0 0 0 out₀
+module _ {ks : List Key} {cs : List Command} {ms : List (List Entry)} {ls : List Level} {out₀ : List ℕ} where
+  pub started : {low high : Execution} {L H : List Entry} → Runs ks cs (length out₀) ms ls low L high H 0 [] 0 0 → Kept ks cs ms ls out₀ low L high H 0 0 0 0 out₀
   unfolding bytesOf
-  started low high L H r = record { sent = []; going = r; bytes = omega arith; size = refl; memory = sym (placed-nil out₀ 0); room = omega arith; same = refl; small = omega arith }
+  started r = record { sent = []; going = r; bytes = omega arith; size = refl; memory = sym (placed-nil out₀ 0); room = omega arith; same = refl; small = omega arith }
 
-  module _ (low : Execution) (L : List Entry) (high : Execution) (H : List Entry) (taken at steps w : ℕ) (o : List ℕ) (k : Kept ks cs ms ls out₀ low L high H taken at steps w o) where
+  module _ {low : Execution} {L : List Entry} {high : Execution} {H : List Entry} {taken at steps w : ℕ} {o : List ℕ} (k : Kept ks cs ms ls out₀ low L high H taken at steps w o) where
     abbrev here : State
     here = stateOf low L high H (drop taken ms) taken (k .sent) at steps
 
@@ -68,8 +68,8 @@ module _ (ks : List Key) (cs : List Command) (ms : List (List Entry)) (ls : List
     counted = k .bytes
 
     -- a turn that sends nothing
-    pub still : (low′ : Execution) (L′ : List Entry) (high′ : Execution) (H′ : List Entry) (taken′ steps′ : ℕ) → Runs ks cs (length out₀) ms ls low′ L′ high′ H′ taken′ (k .sent) (at + 1) steps′ → Kept ks cs ms ls out₀ low′ L′ high′ H′ taken′ (at + 1) steps′ w o
-    still low′ L′ high′ H′ taken′ steps′ r = record { sent = k .sent; going = r; bytes = k .bytes; size = k .size; memory = k .memory; room = k .room; same = k .same; small = grown }
+    pub still : {low′ : Execution} {L′ : List Entry} {high′ : Execution} {H′ : List Entry} {taken′ steps′ : ℕ} → Runs ks cs (length out₀) ms ls low′ L′ high′ H′ taken′ (k .sent) (at + 1) steps′ → Kept ks cs ms ls out₀ low′ L′ high′ H′ taken′ (at + 1) steps′ w o
+    still r = record { sent = k .sent; going = r; bytes = k .bytes; size = k .size; memory = k .memory; room = k .room; same = k .same; small = grown }
       where
         grown : w ≤ lineLength ks * (at + 1)
         grown = rw (add-one at, mul-suc (lineLength ks) at) (omega (arith, k .small))
