@@ -1,17 +1,15 @@
 -- The parts of a command's line, as the code takes them apart at its spaces.
 use mathlib.Core.Path.{_≡_, refl, sym, ap, _∙_}
-use mathlib.Core.Bool.{Bool, true, false, cond}
 use mathlib.Core.List.{List, [], _∷_}
 use Prim.Native.Nat.{ℕ, suc, _+_, _-_, _<_, _≤_}
 use native.Mathlib.Omega.{arith}
 use native.Mathlib.Decide.{decLt}
-use lib.Dec.{eqb}
 use lib.IntN.{pos}
 use lib.ListN.{length, take, drop}
 use lib.Seq.{take-all}
 use borrow.Author.Tests.{ne-eqb, le-ltb, lt-ltb}
 use Rattle.model.specs.Parsed.{Parsed, ok, bad, _>>=_}
-use Rattle.model.specs.Bytes.{find, split, grow}
+use Rattle.model.specs.Bytes.{find, split}
 use Rattle.model.specs.Number.{upTo, number}
 use Rattle.model.specs.Commands.{Row, Limits, table, blank, operand, operands, byRow, rowOf, words, readCommand}
 use Rattle.model.specs.declared.Op.{Op}

@@ -1,19 +1,16 @@
 -- A command's effect, put into the execution's record, is what the command does.
-use Prim.Native.Nat.{ℕ, zero, suc, _+_, _≤_, _<_, zero-le}
-use mathlib.Core.Path.{_≡_, refl, sym, ap, _∙_}
-use mathlib.Core.Bool.{Bool, true, false, cond}
+use Prim.Native.Nat.{ℕ, zero, suc, _+_, _≤_, zero-le}
+use mathlib.Core.Path.{_≡_, refl}
+use mathlib.Core.Bool.{cond}
 use native.Mathlib.Nat.{add-zero, le-refl}
-use native.Mathlib.Omega.{arith}
 use lib.IntN.{ℤ, pos, negsuc}
-use lib.Signed.{ltZ}
-use lib.ListN.{getD, set}
+use lib.ListN.{set}
 use lib.Seq.{set-getD}
-use Rattle.model.specs.Arithmetic.{sum, difference, product, quotient, isZero}
-use Rattle.model.specs.Execution.{numberOf, presence, variable, afterOf, goes, assigns, enters, calling, doesBy, does}
+use Rattle.model.specs.Arithmetic.{isZero}
+use Rattle.model.specs.Execution.{variable, afterOf, goes, assigns, calling, doesBy, does}
 use Rattle.model.specs.declared.Op.{Op}
 use Rattle.model.specs.declared.Op.the-variants.{Set, Add, Sub, Mul, Div, Read, Has, Put, Drop, IfNeg, IfZero, Jump, Receive, Send, Stop}
 use Rattle.model.specs.declared.Entry.{Entry}
-use Rattle.model.specs.declared.Entry.the-variants.{Absent, Number}
 use Rattle.model.specs.declared.Command.{Command}
 use Rattle.model.specs.declared.Execution.{Execution}
 use Rattle.model.specs.declared.Stepped.{Stepped}

@@ -1,5 +1,5 @@
 -- A command as the change that it makes: the same as `does` of the model, in a form that moves only numbers and one entry.
-use mathlib.Core.Bool.{Bool, true, false, cond}
+use mathlib.Core.Bool.{cond}
 use Prim.Native.Nat.{ℕ, _+_, _<_}
 use lib.IntN.{ℤ, pos}
 use lib.Signed.{ltZ}

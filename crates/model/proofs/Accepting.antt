@@ -1,19 +1,19 @@
 -- The job of an accepted sheet is sound: each step of reading keeps what it read within its limit.
-use Prim.Native.Nat.{ℕ, zero, suc, pred, _+_, _*_, _-_, _<_, _≤_, zero-le, suc-le-suc}
+use Prim.Native.Nat.{ℕ, zero, suc, pred, _+_, _-_, _<_, _≤_, zero-le, suc-le-suc}
 use mathlib.Core.Path.{_≡_, refl, sym, _∙_, ap, subst}
 use mathlib.Core.Bool.{Bool, true, false, cond}
 use mathlib.Core.List.{List, [], _∷_, _++_}
 use lib.Dec.{eqb, leb, ltb}
-use lib.IntN.{ℤ, pos, negsuc}
+use lib.IntN.{ℤ, negsuc}
 use lib.ListN.{length, set, replicate, getD, length-set, length-replicate, length-append}
-use borrow.Author.Tests.{leb-true, ltb-true, ltb-false, eqb-true}
+use borrow.Author.Tests.{leb-true, ltb-true, ltb-false}
 use native.Mathlib.Omega.{arith}
 use Rattle.model.specs.Limits.{mostBytes, mostKeys, mostCommands, mostMessages, mostLetters, variables, greatestNumber, leastNumber}
 use Rattle.model.specs.Parsed.{Parsed, ok, bad, need, _>>=_, _>>_}
 use Rattle.model.specs.Bytes.{bytes, divide, split, lines, count, lineFeed}
 use Rattle.model.specs.Number.{natural, within, upTo, fromOne, negative, positive, number}
-use Rattle.model.specs.Commands.{Limits, Row, table, blank, operand, operands, rowOf, byRow, words, readCommand}
-use Rattle.model.specs.Line.{ByKey, sheetLine, keysLine, pair, part, secretLine, parts, allAbsent, allOpen, entered, message, messageLine, letter, letters, turnsLine}
+use Rattle.model.specs.Commands.{Limits, table, blank, operand, operands, rowOf, byRow, words, readCommand}
+use Rattle.model.specs.Line.{ByKey, sheetLine, keysLine, pair, part, secretLine, parts, allAbsent, allOpen, message, messageLine, letter, letters, turnsLine}
 use Rattle.model.specs.Job.{Job}
 use Rattle.model.specs.Phase.{Phase, done, stopped, after, one, many, oneMore, some, numbered, onward, eachLine}
 use Rattle.model.specs.Reading.{Reading, refused, accepted, limits, readFirst, readKeys, readSecrets, readCommands, readMessages, readTurns, last, next, targets, readLines, forbiddenLine, closed, readSheet}

@@ -1,15 +1,15 @@
 -- The counts of a run are those of its letters, its lines and its messages, and what it sends fits the memory.
-use Prim.Native.Nat.{ℕ, zero, suc, _+_, _*_, _-_, _<_, _≤_, zero-le, suc-le-suc}
-use mathlib.Core.Path.{_≡_, refl, sym, _∙_, ap, subst⁻¹}
-use mathlib.Core.Bool.{Bool, true, false, cond}
-use mathlib.Core.List.{List, [], _∷_, _++_}
+use Prim.Native.Nat.{ℕ, suc, _+_, _*_, _-_, _≤_, zero-le, suc-le-suc}
+use mathlib.Core.Path.{_≡_, refl, _∙_, ap, subst⁻¹}
+use mathlib.Core.Bool.{Bool, true, false}
+use mathlib.Core.List.{List, [], _∷_}
 use lib.ListN.{length, take, length-append}
 use borrow.Author.Tests.{ltb-false}
 use native.Mathlib.Omega.{arith}
 use native.Mathlib.Nat.{zero-add}
 use Rattle.model.specs.Execution.{callOf}
 use Rattle.model.specs.Job.{Job}
-use Rattle.model.specs.Run.{Sent, Common, State, Outcome, fieldsOf, command, stopped, at, put, process, takes, receive, columns, send, share, counted, lead, follow, turn, lineLength, written, short, allUsed, noRoom, verdictBy, verdict, ended, settle, run, initial, runJob}
+use Rattle.model.specs.Run.{Sent, Common, State, Outcome, fieldsOf, command, stopped, process, takes, receive, columns, send, share, counted, lead, follow, turn, lineLength, written, short, allUsed, noRoom, verdictBy, verdict, ended, settle, run, initial, runJob}
 use Rattle.model.specs.Counts.{lows, Counted}
 use Rattle.model.specs.declared.Entry.{Entry}
 use Rattle.model.specs.declared.Command.{Command}

@@ -1,17 +1,17 @@
 -- Two runs in lockstep: what all but one source see stays equal, turn by turn, to the end.
-use Prim.Native.Nat.{ℕ, zero, suc, _+_, _*_, _-_, _<_, zero-le, suc-le-suc}
+use Prim.Native.Nat.{ℕ, suc, _+_, _*_, _-_, _<_, zero-le, suc-le-suc}
 use mathlib.Core.Path.{_≡_, refl, sym, _∙_, ap, ap₂, subst}
 use mathlib.Core.Logic.{_≢_}
-use mathlib.Core.Bool.{Bool, true, false, cond}
+use mathlib.Core.Bool.{Bool}
 use mathlib.Core.List.{List, [], _∷_, _++_}
-use lib.ListN.{length, getD, drop, replicate, length-append}
+use lib.ListN.{length, getD, drop}
 use lib.Seq.{getD-drop}
 use lib.Dec.{ltb}
 use native.Mathlib.Numerals.{one-add}
 use Rattle.model.specs.Execution.{callOf}
-use Rattle.model.specs.Run.{Process, Processes, Sent, Common, State, Outcome, fieldsOf, refill, step, command, stopped, at, put, each, process, withProcess, shown, source, fill, takes, received, receive, columns, send, share, counted, lead, waits, followed, follow, turn, lineLength, written, short, allUsed, noRoom, verdictBy, verdict, ended, settle, run, initial}
+use Rattle.model.specs.Run.{Process, Processes, Sent, Common, State, Outcome, fieldsOf, refill, step, command, stopped, at, put, each, process, withProcess, shown, source, fill, takes, received, receive, columns, send, share, counted, lead, followed, follow, turn, lineLength, written, short, allUsed, noRoom, verdictBy, verdict, ended, settle, run, initial}
 use Rattle.model.specs.declared.Entry.{Entry}
-use Rattle.model.specs.declared.Entry.the-variants.{Absent, Number}
+use Rattle.model.specs.declared.Entry.the-variants.{Absent}
 use Rattle.model.specs.declared.Command.{Command}
 use Rattle.model.specs.declared.Call.{Call}
 use Rattle.model.specs.declared.Call.the-variants.{Neither, Receives, Sends}
@@ -23,7 +23,6 @@ use Rattle.model.specs.declared.Ending.{Ending}
 use Rattle.model.specs.declared.Ending.the-variants.{LettersUsed}
 use Rattle.model.specs.declared.Verdict.{Verdict}
 use Rattle.model.specs.declared.Verdict.the-variants.{GoesOn, Ends}
-use Rattle.model.specs.declared.Counts.{Counts}
 
 -- ---- The laws of levels: all that depends on how many there are
 

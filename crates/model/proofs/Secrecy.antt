@@ -1,17 +1,16 @@
 -- The secrecy rule holds, for every owner other than the low level.
-use Prim.Native.Nat.{ℕ, zero, suc, _+_, _*_, _%_, _<_, _≤_}
-use mathlib.Core.Path.{_≡_, refl, sym, _∙_, ap, ap₂, subst, subst⁻¹}
+use Prim.Native.Nat.{ℕ, suc, _+_, _*_, _<_}
+use mathlib.Core.Path.{_≡_, sym, _∙_, ap, ap₂, subst, subst⁻¹}
 use mathlib.Core.Logic.{_≢_}
-use mathlib.Core.List.{List, [], _∷_, _++_}
+use mathlib.Core.List.{List, [], _∷_}
 use lib.ListN.{length, getD, drop, length-append}
 use native.Mathlib.Omega.{arith}
 use native.Mathlib.Nat.{suc-inj}
 use Rattle.model.specs.Job.{Job}
-use Rattle.model.specs.Reading.{readSheet, accepted}
-use Rattle.model.specs.Run.{Sent, State, Outcome, verdict, turn, source, lineLength, written, ended, settle, run, initial, runJob}
+use Rattle.model.specs.Run.{Outcome, source, lineLength, initial, runJob}
 use Rattle.model.specs.Output.{bytesOf, memoryAfter}
-use Rattle.model.specs.Answer.{Left, leftBy, leave, numbersOf, bytesWritten, runSheet}
-use Rattle.model.specs.Secrecy.{OwnedBy, Alike, Hidden, Indistinguishable, SecrecyOf, SheetSecrecyOf}
+use Rattle.model.specs.Answer.{leftBy, leave, numbersOf, runSheet}
+use Rattle.model.specs.Secrecy.{OwnedBy, Hidden, Indistinguishable, SecrecyOf, SheetSecrecyOf}
 use Rattle.model.specs.declared.Entry.{Entry}
 use Rattle.model.specs.declared.Entry.the-variants.{Absent}
 use Rattle.model.specs.declared.Level.{Level}
@@ -22,7 +21,7 @@ use Rattle.model.specs.declared.Key.the-variants.{Open, Secret}
 use Rattle.model.specs.declared.Counts.{Counts}
 use Rattle.model.specs.declared.Ending.{Ending}
 use Rattle.model.specs.declared.Answer.the-variants.{Ended}
-use Rattle.model.proofs.Lockstep.{RestLike, SentLike, Same, run-alike, initial-alike, low≢high}
+use Rattle.model.proofs.Lockstep.{RestLike, Same, run-alike, initial-alike, low≢high}
 use Rattle.model.proofs.Bytes.{split, bytes-length, bytes-at}
 use Rattle.model.proofs.Counting.{bytes-counted}
 

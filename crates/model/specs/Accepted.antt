@@ -6,7 +6,7 @@ use lib.IntN.{ℤ}
 use lib.Signed.{mag}
 use lib.ListN.{length}
 use Rattle.model.specs.Limits.{mostKeys, mostCommands, mostMessages, mostLetters, variables, greatestNumber}
-use Rattle.model.specs.Parsed.{Parsed, ok}
+use Rattle.model.specs.Parsed.{ok}
 use Rattle.model.specs.Line.{pair}
 use Rattle.model.specs.Job.{Job}
 use Rattle.model.specs.Reading.{accepted, readSheet}

@@ -1,17 +1,15 @@
 -- What a run of a whole sheet answers, prints and leaves in the memories that are lent to it.
-use Prim.Native.Nat.{ℕ, zero, suc, _+_, _*_, _/_, _%_}
-use mathlib.Core.Bool.{Bool, true, false, cond}
+use Prim.Native.Nat.{ℕ, zero, suc, _+_, _/_, _%_}
+use mathlib.Core.Bool.{cond}
 use mathlib.Core.List.{List, [], _∷_, _++_}
 use lib.Dec.{eqb, ltb}
 use lib.ListN.{length, take, getD}
 use Rattle.model.specs.Bytes.{bytes}
-use Rattle.model.specs.Job.{Job}
 use Rattle.model.specs.Reading.{Reading, refused, accepted, readSheet}
 use Rattle.model.specs.Run.{Outcome, runJob}
 use Rattle.model.specs.Output.{memoryAfter}
 use Rattle.model.specs.declared.Ending.{Ending}
 use Rattle.model.specs.declared.Ending.the-variants.{Stopped, LettersUsed, NoRoom}
-use Rattle.model.specs.declared.Counts.{Counts}
 use Rattle.model.specs.declared.Answer.{Answer}
 use Rattle.model.specs.declared.Answer.the-variants.{Ended, Refused}
 

@@ -1,6 +1,6 @@
 -- The arithmetic of the commands, over the integers.
 use mathlib.Core.Bool.{Bool, true, false, cond}
-use Prim.Native.Nat.{ℕ, zero, suc, pred}
+use Prim.Native.Nat.{zero, suc, pred}
 use lib.IntN.{ℤ, pos, negsuc, _+ℤ_, _-ℤ_, _*ℤ_}
 use lib.Signed.{ltZ, quotZ}
 use Rattle.model.specs.Limits.{greatestNumber, leastNumber}

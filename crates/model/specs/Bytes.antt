@@ -1,8 +1,8 @@
 -- Texts as lists of bytes: the class of a byte, the place of a byte, and the parts of a text.
 use mathlib.Core.Bool.{Bool, true, false, cond, _&&_}
 use mathlib.Core.List.{List, [], _∷_}
-use Prim.Native.Nat.{ℕ, suc, _+_}
-use Prim.Native.Char.{Char, code}
+use Prim.Native.Nat.{ℕ, suc}
+use Prim.Native.Char.{code}
 use Prim.Native.String.{String, [] as none, _∷_ as _∷ˢ_}
 use lib.Dec.{eqb, leb, ltb}
 use lib.ListN.{length, take, drop}

@@ -1,11 +1,11 @@
 -- The commands as document 01 prints them, in one table, and reading a command's line by that table.
-use mathlib.Core.Bool.{Bool, true, false, cond}
+use mathlib.Core.Bool.{cond}
 use mathlib.Core.List.{List, [], _∷_}
 use Prim.Native.Nat.{ℕ, _-_}
 use Prim.Native.String.{String}
 use lib.Dec.{eqb}
 use lib.ListN.{length}
-use lib.IntN.{ℤ, pos}
+use lib.IntN.{pos}
 use Rattle.model.specs.Limits.{variables}
 use Rattle.model.specs.Parsed.{Parsed, ok, bad, _>>=_}
 use Rattle.model.specs.Bytes.{bytes, same, split, space}

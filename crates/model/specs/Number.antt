@@ -1,6 +1,6 @@
 -- Numbers as a sheet writes them. "A number has no leading zero except 0 itself. A minus sign stands only before a number other than 0, and
 -- there is no plus sign." Refusal 4: "a number is malformed or beyond its limit".
-use mathlib.Core.Bool.{Bool, true, false, cond}
+use mathlib.Core.Bool.{cond}
 use mathlib.Core.List.{List, [], _∷_}
 use Prim.Native.Nat.{ℕ, _+_, _*_, _-_, pred}
 use lib.Dec.{eqb, leb}

@@ -1,9 +1,9 @@
 -- The bytes of the lines sent, and the output memory after a run.
 use Prim.Native.Nat.{ℕ, zero, suc, _+_, _/_, _%_}
-use mathlib.Core.Bool.{Bool, true, false, cond}
+use mathlib.Core.Bool.{cond}
 use mathlib.Core.List.{List, [], _∷_, _++_}
 use lib.ListN.{length, drop, replicate}
-use lib.IntN.{ℤ, pos, negsuc, natAbs}
+use lib.IntN.{ℤ, natAbs}
 use lib.Signed.{nonNeg}
 use Rattle.model.specs.Bytes.{bytes}
 use Rattle.model.specs.Run.{Sent}

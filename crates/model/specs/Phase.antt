@@ -1,5 +1,4 @@
 -- "The lines come in this order": a phase reads the lines of one name, and hands on what it read, the number of the next line, and the lines left.
-use mathlib.Core.Bool.{Bool, true, false}
 use mathlib.Core.List.{List, [], _∷_, _++_}
 use Prim.Native.Nat.{ℕ, _+_}
 use lib.Dec.{ltb}

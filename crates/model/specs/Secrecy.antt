@@ -1,16 +1,16 @@
 -- Demand 3: a statement about two whole paired runs, over jobs and over the sheets that say them.
 use Prim.Native.Nat.{ℕ, _+_, _*_, _%_, _<_, _≤_}
 use mathlib.Core.Path.{_≡_}
-use mathlib.Core.List.{List, [], _∷_}
+use mathlib.Core.List.{List, []}
 use lib.ListN.{length, getD}
 use Rattle.model.specs.Job.{Job}
-use Rattle.model.specs.Reading.{Reading, accepted, readSheet}
+use Rattle.model.specs.Reading.{accepted, readSheet}
 use Rattle.model.specs.Run.{runJob}
 use Rattle.model.specs.Answer.{Left, leftBy, numbersOf, bytesWritten, runSheet}
 use Rattle.model.specs.declared.Entry.{Entry}
-use Rattle.model.specs.declared.Entry.the-variants.{Absent, Number}
+use Rattle.model.specs.declared.Entry.the-variants.{Absent}
 use Rattle.model.specs.declared.Level.{Level}
-use Rattle.model.specs.declared.Level.the-variants.{Low, High}
+use Rattle.model.specs.declared.Level.the-variants.{High}
 use Rattle.model.specs.declared.Key.{Key}
 use Rattle.model.specs.declared.Key.the-variants.{Open, Secret}
 

@@ -5,17 +5,17 @@ use Prim.Native.Nat.{ℕ, zero, suc, _+_, _-_, _*_, _≤_, _<_}
 use native.Mathlib.Omega.{arith}
 use native.Mathlib.Nat.{le-of-suc-le-suc, not-suc-le-zero, add-zero, zero-add}
 use native.Mathlib.Numerals.{add-one}
-use lib.ListN.{length, getD, take, drop, set, replicate, List·getD-map, length-append, length-set, length-map, drop-of-length-le}
+use lib.ListN.{length, getD, drop, set, replicate, List·getD-map, length-append, length-set, length-map, drop-of-length-le}
 use lib.Seq.{drop-cons, getD-take, length-take-le}
 use Rattle.model.specs.Bytes.{bytes}
 use Rattle.model.specs.Job.{keyIn}
-use Rattle.model.specs.Run.{Sent, source, columns}
+use Rattle.model.specs.Run.{source, columns}
 use Rattle.model.specs.Output.{digits, cell, cells, heading, lineBytes}
 use Rattle.model.specs.declared.Entry.{Entry}
-use Rattle.model.specs.declared.Entry.the-variants.{Absent, Number}
+use Rattle.model.specs.declared.Entry.the-variants.{Absent}
 use Rattle.model.specs.declared.Field.{Field}
 use Rattle.model.specs.declared.Key.{Key}
-use Rattle.model.specs.declared.Key.the-variants.{Open, Secret}
+use Rattle.model.specs.declared.Key.the-variants.{Open}
 use Rattle.model.specs.declared.KeySlot.{KeySlot}
 use Rattle.model.specs.declared.Level.{Level}
 use Rattle.model.specs.declared.Level.the-variants.{Low, High}

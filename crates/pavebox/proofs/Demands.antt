@@ -1,17 +1,15 @@
 -- Demands 1, 2 and 3, from the entry's contract and the theorems about the model.
-use Prim.Native.Nat.{ℕ, _+_, _*_, _-_, _≤_}
-use mathlib.Core.Path.{_≡_, refl, sym, ap, ap₂, subst, subst⁻¹, _∙_}
-use mathlib.Core.List.{List, [], _∷_, _++_}
+use Prim.Native.Nat.{ℕ, _+_, _-_, _≤_}
+use mathlib.Core.Path.{_≡_, refl, sym, ap, _∙_}
+use mathlib.Core.List.{List, [], _∷_}
 use native.Mathlib.Omega.{arith}
-use lib.ListN.{length, getD, drop, length-append, length-drop}
-use Rattle.model.specs.Answer.{After, Left, numbersOf, bytesWritten, allLe32, answerBytes, answeredBy, leftBy, leave, runSheet, entry}
-use Rattle.model.specs.Counts.{Counted}
+use lib.ListN.{length, getD, length-append, length-drop}
+use Rattle.model.specs.Answer.{After, Left, numbersOf, allLe32, answeredBy, leftBy, runSheet, entry}
 use Rattle.model.specs.Job.{Job}
 use Rattle.model.specs.Output.{bytesOf, memoryAfter}
 use Rattle.model.specs.Reading.{Reading, accepted, refused, readSheet}
-use Rattle.model.specs.Run.{lineLength, run, initial, runJob}
-use Rattle.model.specs.Secrecy.{Alike, Hidden, Indistinguishable}
-use Rattle.model.specs.declared.Answer.the-variants.{Ended, Refused}
+use Rattle.model.specs.Run.{lineLength, run, runJob}
+use Rattle.model.specs.Secrecy.{Indistinguishable}
 use Rattle.model.specs.declared.Entry.{Entry}
 use Rattle.model.specs.declared.Key.{Key}
 use Rattle.model.specs.declared.Level.the-variants.{High}
@@ -20,7 +18,7 @@ use Rattle.model.proofs.Counting.{counts-of}
 use Rattle.model.proofs.Lockstep.{RestLike, run-alike, initial-alike, low≢high}
 use Rattle.model.proofs.Secrecy.{secrecy}
 use Rattle.pavebox.proofs.Laws.{accepted-left, refused-left, entry-sized}
-use Rattle.pavebox.specs.Demands.{Call, Demand1, Demand2, Demand3, Demand1Holds, Demand2Holds, Demand3Holds}
+use Rattle.pavebox.specs.Demands.{Call, Demand2, Demand1Holds, Demand2Holds, Demand3Holds}
 
 -- ---- What a run sends fits the memory that is lent to it
 

@@ -4,7 +4,7 @@ use mathlib.Core.Path.{_≡_, sym, ap, _∙_}
 use mathlib.Core.List.{List}
 use lib.ListN.{length}
 use borrow.Author.Tests.{eq-eqb, ne-eqb}
-use Rattle.model.specs.Answer.{After, Left, answerBytes, answeredBy, leftBy, runSheet, entry}
+use Rattle.model.specs.Answer.{After, answerBytes, answeredBy, leftBy, runSheet, entry}
 use Rattle.model.specs.Job.{Job, jobOf}
 use Rattle.model.specs.Reading.{Reading, accepted, refused, readSheet}
 use Rattle.model.specs.Run.{runJob}

@@ -1,5 +1,5 @@
 -- The three demands, of what the C entry returns and leaves; a call is stated by the contract that the entry is proved to meet.
-use Prim.Native.Nat.{ℕ, _+_, _*_, _<_, _≤_}
+use Prim.Native.Nat.{ℕ, _+_}
 use mathlib.Core.Path.{_≡_}
 use mathlib.Core.List.{List, _++_}
 use lib.ListN.{length, getD, drop}
@@ -9,7 +9,7 @@ use Rattle.model.specs.Output.{bytesOf}
 use Rattle.model.specs.Reading.{accepted, refused, readSheet}
 use Rattle.model.specs.Run.{runJob}
 use Rattle.model.specs.Secrecy.{Alike, Hidden}
-use Rattle.model.specs.declared.Answer.the-variants.{Ended, Refused}
+use Rattle.model.specs.declared.Answer.the-variants.{Refused}
 use Rattle.model.specs.declared.Level.the-variants.{High}
 use Rattle.pavebox.specs.Entry.{Answered}
 

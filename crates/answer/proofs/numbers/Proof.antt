@@ -4,7 +4,6 @@ use mathlib.Core.List.{_∷_, []}
 use Prim.Native.Nat.{ℕ}
 use borrow.Author.Needs.{needs}
 use Rattle.model.specs.Answer.{numbersOf}
-use Rattle.model.specs.declared.Counts.{Counts}
 use Rattle.answer.proofs.numbers.Statement.{statement}
 use Rattle.answer.proofs.numbers.Tie as tie
 

@@ -1,11 +1,6 @@
-use mathlib.Core.Path.{_≡_, ap, _∙_, sym}
-use mathlib.Core.Bool.{false}
-use lib.IntN.{ℤ}
-use lib.Signed.{ltZ}
 use mir.Syntax.{w32, w64}
-use mir.Val.{SFits, toZ, ofZ}
+use mir.Val.{SFits}
 use mir.Facts.{toZ-ofZ}
-use Rattle.model.specs.Arithmetic.{least, greatest}
 use Rattle.arith.proofs.Laws.{clamp-low, clamp-high, clamp-in, in-fits}
 use Rattle.arith.proofs.clamp.Statement.{statement}
 use Rattle.arith.proofs.clamp.Tie as tie

@@ -1,5 +1,5 @@
 -- The two cases of the key.
-use mathlib.Core.Path.{_≡_, sym, ap, _∙_}
+use mathlib.Core.Path.{sym, ap, _∙_}
 use borrow.Author.Needs.{needs}
 use lib.IntN.{ℤ}
 use Rattle.model.specs.declared.Entry.{Entry}

@@ -1,5 +1,5 @@
 -- The digits that are left, after those that make `a`, give what all of them give.
-use Prim.Native.Nat.{ℕ, _≤_, _+_, _-_, _<_, _*_}
+use Prim.Native.Nat.{_≤_, _+_, _-_, _*_}
 use mathlib.Core.Path.{_≡_, refl}
 use native.Mathlib.Omega.{arith}
 use borrow.Author.Needs.{needs}
