@@ -82,8 +82,11 @@ fn run_one(side: Side, count: &str, name: &str) -> Result<(), String> {
         "largest" => vec![sheets::largest()],
         _ => return Err(usage()),
     };
+    let mut output = vec![0; LENT];
     for _ in 0..count {
-        halves.iter().for_each(|half| pass(side, half));
+        for half in &halves {
+            pass(side, half, &mut output);
+        }
     }
     let sheets: usize = halves.iter().map(|half| half.sheets.len()).sum();
     let positions: u64 = halves.iter().map(|half| half.positions).sum();
@@ -92,11 +95,11 @@ fn run_one(side: Side, count: &str, name: &str) -> Result<(), String> {
     Ok(())
 }
 
-/// One side, once over each sheet.
-fn pass(side: Side, half: &Sheets) {
-    let mut output = [0; LENT];
+/// One side, once over each sheet. The output memory is the caller's, so that clearing it is no part
+/// of what is counted.
+fn pass(side: Side, half: &Sheets, output: &mut [u8]) {
     for sheet in &half.sheets {
-        black_box(side(black_box(sheet), black_box(&mut output)));
+        black_box(side(black_box(sheet), black_box(&mut *output)));
     }
 }
 

@@ -67,14 +67,18 @@ pub fn short() -> Sheets {
 /// The largest sheet: as many lines of every kind as the rules allow, each as long as it can be. The
 /// program stops at once, so that reading is nearly all of the work.
 pub fn largest() -> Sheets {
-    let entries: Vec<String> = (0..MOST_KEYS).map(|key| format!("{key}:{LOWEST}")).collect();
-    let secrets: String = entries.iter().map(|entry| format!("secret={entry}\n")).collect();
+    let entries: Vec<String> = (0..MOST_KEYS)
+        .map(|key| format!("{key}:{LOWEST}"))
+        .collect();
+    let secrets: String = entries
+        .iter()
+        .map(|entry| format!("secret={entry}\n"))
+        .collect();
     let commands = format!("do=set 7 {LOWEST}\n").repeat(MOST_COMMANDS - 1);
     let messages = format!("msg={}\n", entries.join(",")).repeat(MOST_MESSAGES);
     let turns = "L".repeat(MOST_TURNS);
-    let sheet = format!(
-        "sheet=1\nkeys={MOST_KEYS}\n{secrets}do=stop\n{commands}{messages}turns={turns}\n"
-    );
+    let sheet =
+        format!("sheet=1\nkeys={MOST_KEYS}\n{secrets}do=stop\n{commands}{messages}turns={turns}\n");
     let positions = positions(sheet.as_bytes());
     let mut largest = Sheets::new("largest");
     largest.add(sheet.into_bytes(), positions);

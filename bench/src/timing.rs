@@ -1,7 +1,7 @@
 //! Times both sides, in turn, so that a slow moment of the machine falls on both.
 
 use crate::sheets::Sheets;
-use crate::{archive, pass, plain, Side};
+use crate::{archive, pass, plain, Side, LENT};
 use std::time::Instant;
 
 /// Rounds, of which the best and the middle one count.
@@ -35,9 +35,10 @@ impl Times {
 }
 
 fn seconds(side: Side, half: &Sheets) -> f64 {
+    let mut output = vec![0; LENT];
     let start = Instant::now();
     for _ in 0..PASSES {
-        pass(side, half);
+        pass(side, half, &mut output);
     }
     start.elapsed().as_secs_f64() / PASSES as f64
 }

@@ -1,6 +1,7 @@
 /*
- * The archive from C, on memories of exactly the lengths that it is told. Run it under valgrind,
- * which then sees each byte that is read or written beside them.
+ * The archive's boundary from C: memories of exactly the lengths that it is told, of every length
+ * that matters. Run it under valgrind, which then sees each byte that is read or written beside
+ * them. What sheets mean is not tried here: tests/differential does that.
  *
  * Prints a line for each check that fails and, if all hold, one last line. Exit status 1: a check
  * has failed.
@@ -15,13 +16,11 @@
 #define FILL 0xaa
 #define LENT 32768u
 
-/* Sheet A in parts, of which the examples change one or two. */
-#define HEAD "sheet=1\nkeys=2\nsecret=1:300\ndo=receive\ndo=read 0 1\ndo=put 1 0\ndo=send\n"
-#define STOP "do=stop\n"
-#define MESSAGE "msg=0:1500,1:1480\n"
-#define TURNS "turns=LHLHLHLHLH\n"
-#define SHEET_A HEAD STOP MESSAGE TURNS
-#define SENT_A "sent=0006 +0000001500 +0000001480\n"
+/* A sheet that sends one line, of 34 bytes. */
+#define SHEET \
+    "sheet=1\nkeys=2\nsecret=1:-4\ndo=receive\ndo=set 7 12\ndo=put 0 7\ndo=send\n" \
+    "msg=0:5,1:-6\nturns=LHLLL\n"
+#define SENT "sent=0004 +0000000012 -0000000006\n"
 
 static unsigned checks;
 static unsigned failures;
@@ -120,69 +119,49 @@ static void run_text(const char *name, const char *sheet, size_t lent, struct wa
 
 #define WANTED(sent, a, b, c, d, e, f) ((struct wanted){sent, {a, b, c, d, e, f}})
 
-static void check_examples(void)
+/* Output memories with no room for the line, with just enough, and with more. */
+static void check_output_lengths(void)
 {
-    run_text("P1", SHEET_A, LENT, WANTED(SENT_A, 0, 0, 9, 5, 34, 1));
-    run_text("P2", HEAD STOP "msg=0:1500,1:-7\n" TURNS, LENT,
-             WANTED("sent=0006 +0000001500 -0000000007\n", 0, 0, 9, 5, 34, 1));
-    run_text("P3", HEAD STOP "msg=0:1500\n" TURNS, LENT,
-             WANTED("sent=0006 +0000001500 +0000000000\n", 0, 0, 9, 5, 34, 1));
-    run_text("P4", HEAD STOP MESSAGE "turns=LHLH\n", LENT, WANTED("", 31, 0, 4, 2, 0, 1));
-    run_text("P5", HEAD STOP MESSAGE "turns=LLLLL\n", LENT,
-             WANTED("sent=0003 +0000001500 +0000001480\n", 0, 0, 5, 5, 34, 1));
-    run_text("P6", HEAD STOP MESSAGE "turns=H\n", LENT, WANTED("", 31, 0, 1, 0, 0, 0));
-    run_text("P7 with 33", SHEET_A, 33, WANTED("", 32, 0, 6, 3, 0, 1));
-    run_text("P7 with 34", SHEET_A, 34, WANTED(SENT_A, 0, 0, 9, 5, 34, 1));
-    run_text("P7 with 0", SHEET_A, 0, WANTED("", 32, 0, 6, 3, 0, 1));
-    run_text("P8",
-             "sheet=1\nkeys=1\nsecret=0:0\ndo=receive\ndo=read 0 0\ndo=ifzero 0 4\ndo=send\n"
-             "do=stop\nmsg=0:9\nturns=LHLHLHLH\n",
-             LENT, WANTED("", 0, 0, 7, 4, 0, 1));
-    run_text("P11", "", LENT, WANTED("", 2, 1, 0, 0, 0, 0));
+    static const size_t lengths[] = {0, 1, 33, 34, 35, LENT};
+    size_t place;
+    for (place = 0; place < sizeof lengths / sizeof lengths[0]; place++) {
+        char name[32];
+        snprintf(name, sizeof name, "%lu bytes lent", (unsigned long)lengths[place]);
+        run_text(name, SHEET, lengths[place],
+                 lengths[place] < 34 ? WANTED("", 32, 0, 4, 3, 0, 1)
+                                     : WANTED(SENT, 0, 0, 5, 4, 34, 1));
+    }
 }
 
-/* P9 and P10: v, the word, w, and the column of the result. */
-static void check_arithmetic(const char *name, const char *v, const char *word, const char *w,
-                             const char *result)
+/* A sheet that is cut off after each of its bytes: in the middle of a line it has no line feed at
+ * the end, after a line it ends early. */
+static void check_sheet_lengths(void)
 {
-    char sheet[160];
-    char sent[32];
-    snprintf(sheet, sizeof sheet,
-             "sheet=1\nkeys=1\ndo=set 0 %s\ndo=set 1 %s\ndo=%s 0 1\ndo=put 0 0\ndo=send\n"
-             "turns=LLLLL\n",
-             v, w, word);
-    snprintf(sent, sizeof sent, "sent=0004 %s\n", result);
-    run_text(name, sheet, LENT, WANTED(sent, 0, 0, 5, 5, 22, 0));
+    const size_t whole = strlen(SHEET);
+    uint32_t line = 1;
+    size_t length;
+    for (length = 0; length < whole; length++) {
+        const int after_line = length > 0 && SHEET[length - 1] == '\n';
+        char name[32];
+        line += (uint32_t)after_line;
+        snprintf(name, sizeof name, "the first %lu bytes", (unsigned long)length);
+        run(name, SHEET, length, LENT,
+            WANTED("", after_line ? PAVEBOX_BAD_NAME : PAVEBOX_BAD_BYTE, line, 0, 0, 0, 0));
+    }
 }
 
-static void check_arithmetics(void)
+/* Refusals whose fault stands as near to the end of the sheet's memory as it can. */
+static void check_refusals(void)
 {
-    check_arithmetic("P9, 7 div -2", "7", "div", "-2", "-0000000003");
-    check_arithmetic("P9, -7 div 2", "-7", "div", "2", "-0000000003");
-    check_arithmetic("P9, 5 div 0", "5", "div", "0", "+0000000000");
-    check_arithmetic("P9, the lowest div -1", "-2147483648", "div", "-1", "+2147483647");
-    check_arithmetic("P10", "2147483647", "add", "1", "+2147483647");
-}
-
-/* A sheet with this many commands `stop`. */
-static void check_commands(unsigned count, struct wanted wanted)
-{
-    char sheet[1024] = "sheet=1\nkeys=1\n";
-    unsigned done;
-    for (done = 0; done < count; done++)
-        strcat(sheet, "do=stop\n");
-    strcat(sheet, "turns=L\n");
-    run_text(count == 64 ? "64 commands" : "65 commands", sheet, LENT, wanted);
-}
-
-static void check_others(void)
-{
-    run_text("jump 5", HEAD "do=jump 5\n" MESSAGE TURNS, LENT, WANTED(SENT_A, 0, 0, 9, 5, 34, 1));
-    run_text("jump 6", HEAD "do=jump 6\n" MESSAGE TURNS, LENT, WANTED("", 7, 8, 0, 0, 0, 0));
-    run_text("1:4,1:5", HEAD STOP "msg=1:4,1:5\n" TURNS, LENT, WANTED("", 5, 9, 0, 0, 0, 0));
-    run_text("0:-0", HEAD STOP "msg=0:-0\n" TURNS, LENT, WANTED("", 4, 9, 0, 0, 0, 0));
-    check_commands(64, WANTED("", 0, 0, 1, 1, 0, 0));
-    check_commands(65, WANTED("", 8, 67, 0, 0, 0, 0));
+#define HEAD "sheet=1\nkeys=1\n"
+    run_text("2 at the end", HEAD "do=stop\nturns=L\n\177", LENT, WANTED("", 2, 5, 0, 0, 0, 0));
+    run_text("3 at the end", HEAD "do=stop\nturns=L\n\n", LENT, WANTED("", 3, 5, 0, 0, 0, 0));
+    run_text("4 at the end", HEAD "do=drop \n", LENT, WANTED("", 4, 3, 0, 0, 0, 0));
+    run_text("5 at the end", HEAD "do=stop\nmsg=0:1,0:\n", LENT, WANTED("", 5, 4, 0, 0, 0, 0));
+    run_text("6 at the end", HEAD "do=stop \n", LENT, WANTED("", 6, 3, 0, 0, 0, 0));
+    run_text("7 at the end", HEAD "do=jump 2\nturns=L\n", LENT, WANTED("", 7, 3, 0, 0, 0, 0));
+    run_text("9 at the end", HEAD "do=stop\nturns=\n", LENT, WANTED("", 9, 4, 0, 0, 0, 0));
+#undef HEAD
 }
 
 /* The largest sheet, and one byte more. No accepted sheet is that long. */
@@ -240,7 +219,7 @@ static void check_fullest_sheet(void)
 {
     static char sheet[PAVEBOX_MOST_SHEET_BYTES];
     static char sent[PAVEBOX_MOST_OUTPUT_BYTES + 1];
-    const size_t length = write_fullest_sheet(sheet);
+    size_t length = write_fullest_sheet(sheet);
     const uint32_t written = 321 * 106;
     write_its_lines(sent);
     run("the fullest sheet", sheet, length, written,
@@ -250,17 +229,21 @@ static void check_fullest_sheet(void)
     sent[written - 106] = '\0';
     run("the fullest sheet and a byte too little", sheet, length, written - 1,
         WANTED(sent, 32, 0, 1022, 1022, written - 106, 32));
+    sheet[length - 1] = 'L';
+    sheet[length++] = '\n';
+    run("the fullest sheet and a letter too many", sheet, length, LENT,
+        WANTED("", 8, 107, 0, 0, 0, 0));
 }
 
 /* Refusal 10, before anything else, with nothing written. */
 static void check_answer_lengths(void)
 {
     static const size_t lengths[] = {0, 1, 4, 20, 23, 25, 28, 48};
-    const size_t sheet_len = strlen(SHEET_A);
+    const size_t sheet_len = strlen(SHEET);
     size_t place;
     for (place = 0; place < sizeof lengths / sizeof lengths[0]; place++) {
         const size_t length = lengths[place];
-        uint8_t *sheet = copy(SHEET_A, sheet_len);
+        uint8_t *sheet = copy(SHEET, sheet_len);
         uint8_t *output = memory(34);
         uint8_t *answer = memory(length);
         char name[32];
@@ -279,9 +262,9 @@ static void check_answer_lengths(void)
 static void check_nulls(void)
 {
     static const uint32_t empty[6] = {2, 1, 0, 0, 0, 0};
-    static const uint32_t no_room[6] = {32, 0, 6, 3, 0, 1};
-    const size_t sheet_len = strlen(SHEET_A);
-    uint8_t *sheet = copy(SHEET_A, sheet_len);
+    static const uint32_t no_room[6] = {32, 0, 4, 3, 0, 1};
+    const size_t sheet_len = strlen(SHEET);
+    uint8_t *sheet = copy(SHEET, sheet_len);
     uint8_t *output = memory(34);
     uint8_t *answer = memory(PAVEBOX_ANSWER_BYTES);
     check(pavebox_run(NULL, 0, output, 34, answer, PAVEBOX_ANSWER_BYTES) == PAVEBOX_BAD_BYTE,
@@ -304,9 +287,9 @@ static void check_nulls(void)
 
 int main(void)
 {
-    check_examples();
-    check_arithmetics();
-    check_others();
+    check_output_lengths();
+    check_sheet_lengths();
+    check_refusals();
     check_long_sheets();
     check_fullest_sheet();
     check_answer_lengths();

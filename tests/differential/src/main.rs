@@ -3,8 +3,8 @@
 //! First come the hand-written corners, then COUNT random cases (20,000 by default). SEED is taken
 //! from the clock by default, and is always printed. Each case is a sheet, or a pair of sheets that
 //! differ in secret entries only; every fourth case is a pair. Of each call every byte of the three
-//! memories is compared, and the bytes around them. Exit status 1: a difference, or an ending or a
-//! refusal that never occurred.
+//! memories is compared, and the bytes around them. Exit status 1: a difference, or random cases
+//! that show too little, as fewer than some thousand may.
 
 mod compare;
 mod lent;
@@ -39,7 +39,7 @@ fn main() -> ExitCode {
         return ExitCode::FAILURE;
     }
     print!("{tally}");
-    if let Err(message) = tally.check(count) {
+    if let Err(message) = tally.check() {
         println!("FAILED: {message}\nagain: differential {count} {seed}");
         return ExitCode::FAILURE;
     }
@@ -75,20 +75,20 @@ fn run_all(count: u64, seed: u64, tally: &mut Tally) -> Result<(), Difference> {
             run_pair(&mut rng, tally)?;
         } else {
             let sheet = random_sheet(&mut rng);
-            run_sheet(&mut rng, &sheet, tally)?;
+            tally.count_random(run_sheet(&mut rng, &sheet)?);
         }
     }
     Ok(())
 }
 
-/// A corner: as it stands in its table, with the text that the table has, then with a random length
+/// A corner: as it stands in its table, with the text that the table has, then with random lengths
 /// of memory, and with every wrong length of answer memory.
 fn run_corner(rng: &mut Rng, corner: &Corner, tally: &mut Tally) -> Result<(), Difference> {
     let case = Case::new(rng, &corner.sheet, corner.lent, ANSWER_BYTES);
     let left = compare(&case)?;
     left.check_printed(&case, &corner.printed)?;
     tally.count_corner(left.returned);
-    run_sheet(rng, &corner.sheet, tally)?;
+    tally.count_corner(run_sheet(rng, &corner.sheet)?);
     for length in WRONG_LENGTHS {
         let left = compare(&Case::new(rng, &corner.sheet, corner.lent, length))?;
         tally.count_corner(left.returned);
@@ -96,11 +96,11 @@ fn run_corner(rng: &mut Rng, corner: &Corner, tally: &mut Tally) -> Result<(), D
     Ok(())
 }
 
-fn run_sheet(rng: &mut Rng, sheet: &[u8], tally: &mut Tally) -> Result<(), Difference> {
+/// A sheet with random lengths of memory, and what it returns.
+fn run_sheet(rng: &mut Rng, sheet: &[u8]) -> Result<u32, Difference> {
     let (lent, length) = (memory_length(rng, sheet), answer_length(rng));
     let case = Case::new(rng, sheet, lent, length);
-    tally.count(compare(&case)?.returned);
-    Ok(())
+    Ok(compare(&case)?.returned)
 }
 
 fn run_pair(rng: &mut Rng, tally: &mut Tally) -> Result<(), Difference> {
@@ -109,8 +109,7 @@ fn run_pair(rng: &mut Rng, tally: &mut Tally) -> Result<(), Difference> {
     let first = Case::new(rng, &first, lent, ANSWER_BYTES);
     let second = first.with_sheet(&second);
     let pair = compare_pair(&first, &second)?;
-    tally.count(pair.returned);
-    tally.count_pair(pair.differs);
+    tally.count_pair(pair.returned, pair.differs);
     Ok(())
 }
 
@@ -131,5 +130,29 @@ fn answer_length(rng: &mut Rng) -> usize {
         rng.pick(&WRONG_LENGTHS)
     } else {
         ANSWER_BYTES
+    }
+}
+
+#[cfg(test)]
+mod tests {
+    use super::*;
+
+    fn tally_of(count: u64) -> Tally {
+        let mut tally = Tally::default();
+        if let Err(difference) = run_all(count, 1, &mut tally) {
+            panic!("{difference}");
+        }
+        tally
+    }
+
+    #[test]
+    fn the_corners_alone_show_nothing_at_random() {
+        let message = "0 never occurred in a random case";
+        assert_eq!(tally_of(0).check(), Err(message.to_string()));
+    }
+
+    #[test]
+    fn some_thousand_random_cases_show_enough() {
+        assert_eq!(tally_of(4_000).check(), Ok(()));
     }
 }

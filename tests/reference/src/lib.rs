@@ -14,5 +14,5 @@ pub mod generate;
 pub mod model;
 
 pub use model::{
-    c_entry, in_secret_column, printed, read, run, run_sheet, Command, Job, Level, Refusal,
+    c_entry, in_secret_column, printed, read, run_sheet, Command, Job, Level, Refusal,
 };

@@ -1,4 +1,4 @@
-//! Document 01 against the model: its examples, its corners, and what the generators reach.
+//! Document 01 against the model: its corners, its memories, and what the generators reach.
 
 use reference::corners::{
     corners, Corner, ARITHMETIC, EXAMPLES, LONG, REFUSED, REFUSED_BODIES, RUNS,
@@ -11,8 +11,10 @@ use reference::{
     c_entry, in_secret_column, printed, read, run_sheet, Command, Job, Level, Refusal,
 };
 
-const SHEET_A: &[u8] = b"sheet=1\nkeys=2\nsecret=1:300\ndo=receive\ndo=read 0 1\ndo=put 1 0\n\
-do=send\ndo=stop\nmsg=0:1500,1:1480\nturns=LHLHLHLHLH\n";
+/// An open key, a secret one, and one line sent.
+const SHEET: &[u8] = b"sheet=1\nkeys=2\nsecret=1:-4\ndo=receive\ndo=set 7 12\ndo=put 0 7\n\
+do=send\nmsg=0:5,1:-6\nturns=LHLLL\n";
+const SENT: &[u8] = b"sent=0004 +0000000012 -0000000006\n";
 
 /// What the output memory holds before a run.
 const FILL: u8 = 0xaa;
@@ -33,24 +35,23 @@ fn check(corner: &Corner) {
     assert_eq!(found, wanted, "{} bytes lent to {sheet}", corner.lent);
 }
 
-// The examples, byte for byte.
+// Reading, and the corners byte for byte.
 
 #[test]
-fn sheet_a_is_read_as_written() {
+fn a_sheet_is_read_as_written() {
     let job = Job {
         keys: 2,
-        secrets: vec![None, Some(300)],
+        secrets: vec![None, Some(-4)],
         commands: vec![
             Command::Receive,
-            Command::Read(0, 1),
-            Command::Put(1, 0),
+            Command::Set(7, 12),
+            Command::Put(0, 7),
             Command::Send,
-            Command::Stop,
         ],
-        messages: vec![vec![Some(1500), Some(1480)]],
-        turns: [Level::Low, Level::High].repeat(5),
+        messages: vec![vec![Some(5), Some(-6)]],
+        turns: [Level::Low, Level::High, Level::Low, Level::Low, Level::Low].to_vec(),
     };
-    assert_eq!(read(SHEET_A), Ok(job));
+    assert_eq!(read(SHEET), Ok(job));
 }
 
 /// P1 to P11 and "Others" stand in the tables of `corners`, with everything beside them.
@@ -63,44 +64,16 @@ fn every_corner_prints_what_the_document_says() {
     corners.iter().for_each(check);
 }
 
-/// The same examples once more, by the changes that document 01 makes to sheet A.
-#[test]
-fn examples_as_changes_of_sheet_a() {
-    let a = String::from_utf8_lossy(SHEET_A);
-    let text = |old: &str, new: &str, lent: usize| {
-        assert!(a.contains(old));
-        let found = printed(a.replace(old, new).as_bytes(), lent);
-        String::from_utf8_lossy(&found).into_owned()
-    };
-    let p1 = "sent=0006 +0000001500 +0000001480\nend=0 0 9 5 34 1\n";
-    assert_eq!(text("", "", LENT), p1);
-    let p2 = "sent=0006 +0000001500 -0000000007\nend=0 0 9 5 34 1\n";
-    assert_eq!(text("1:1480", "1:-7", LENT), p2);
-    let p3 = "sent=0006 +0000001500 +0000000000\nend=0 0 9 5 34 1\n";
-    assert_eq!(text(",1:1480", "", LENT), p3);
-    assert_eq!(text("=LHLHLHLHLH", "=LHLH", LENT), "end=31 0 4 2 0 1\n");
-    let p5 = "sent=0003 +0000001500 +0000001480\nend=0 0 5 5 34 1\n";
-    assert_eq!(text("=LHLHLHLHLH", "=LLLLL", LENT), p5);
-    assert_eq!(text("=LHLHLHLHLH", "=H", LENT), "end=31 0 1 0 0 0\n");
-    assert_eq!(run_sheet(SHEET_A, &mut [0; 33]), [32, 0, 6, 3, 0, 1]);
-    assert_eq!(text("", "", 34), p1);
-    assert_eq!(printed(b"", LENT), b"end=2 1 0 0 0 0\n");
-    assert_eq!(text("stop", "jump 5", LENT), p1);
-    assert_eq!(text("stop", "jump 6", LENT), "end=7 8 0 0 0 0\n");
-    assert_eq!(text("0:1500,1:1480", "1:4,1:5", LENT), "end=5 9 0 0 0 0\n");
-    assert_eq!(text("0:1500,1:1480", "0:-0", LENT), "end=4 9 0 0 0 0\n");
-}
-
 // The lent memories.
 
 #[test]
 fn output_is_touched_by_sent_lines_only() {
-    let (numbers, output) = filled_run(SHEET_A, 100);
-    assert_eq!(numbers, [0, 0, 9, 5, 34, 1]);
-    assert_eq!(&output[..34], b"sent=0006 +0000001500 +0000001480\n");
+    let (numbers, output) = filled_run(SHEET, 100);
+    assert_eq!(numbers, [0, 0, 5, 4, 34, 1]);
+    assert_eq!(&output[..34], SENT);
     assert_eq!(output[34..], [FILL; 66]);
-    let (numbers, output) = filled_run(SHEET_A, 33);
-    assert_eq!(numbers, [32, 0, 6, 3, 0, 1]);
+    let (numbers, output) = filled_run(SHEET, 33);
+    assert_eq!(numbers, [32, 0, 4, 3, 0, 1]);
     assert_eq!(output, [FILL; 33]);
     let (numbers, output) = filled_run(b"sheet=1\nkeys=0\n", 40);
     assert_eq!(numbers, [4, 2, 0, 0, 0, 0]);
@@ -125,25 +98,25 @@ fn a_run_can_fill_the_bytes_of_runsheet() {
 fn c_entry_writes_six_numbers_low_byte_first() {
     let mut output = [FILL; 34];
     let mut answer = [FILL; 24];
-    assert_eq!(c_entry(SHEET_A, &mut output, &mut answer), 0);
+    assert_eq!(c_entry(SHEET, &mut output, &mut answer), 0);
     let numbers: [u8; 24] = [
-        0, 0, 0, 0, 0, 0, 0, 0, 9, 0, 0, 0, 5, 0, 0, 0, 34, 0, 0, 0, 1, 0, 0, 0,
+        0, 0, 0, 0, 0, 0, 0, 0, 5, 0, 0, 0, 4, 0, 0, 0, 34, 0, 0, 0, 1, 0, 0, 0,
     ];
     assert_eq!(answer, numbers);
-    assert_eq!(&output, b"sent=0006 +0000001500 +0000001480\n");
+    assert_eq!(output, SENT);
 
     let long = [b'\n'; 300];
     let sheet = [&long[..], b"\x00"].concat();
     assert_eq!(c_entry(&sheet, &mut output, &mut answer), 2);
     assert_eq!(answer[..8], [2, 0, 0, 0, 45, 1, 0, 0]);
     assert_eq!(answer[8..], [0; 16]);
-    assert_eq!(&output, b"sent=0006 +0000001500 +0000001480\n");
+    assert_eq!(output, SENT);
 }
 
 #[test]
 fn c_entry_refuses_answer_memory_of_another_length_before_anything_else() {
     for length in [0, 1, 23, 25, 48] {
-        for sheet in [SHEET_A, b"", &[0; 16_385]] {
+        for sheet in [SHEET, b"", &[0; 16_385]] {
             let mut output = [FILL; 34];
             let mut answer = vec![FILL; length];
             assert_eq!(c_entry(sheet, &mut output, &mut answer), 10);
@@ -185,7 +158,7 @@ fn the_table_of_classes_has_every_byte_in_its_class() {
 
 #[test]
 fn secret_columns_are_the_eleven_characters_of_secret_keys() {
-    let job = read(SHEET_A).expect("sheet A is accepted");
+    let job = read(SHEET).expect("the sheet is accepted");
     let columns = |written: usize| -> Vec<usize> {
         (0..100)
             .filter(|&place| in_secret_column(&job, place, written))
@@ -356,49 +329,5 @@ fn random_bytes_never_stop_the_model() {
             let feeds = sheet.iter().filter(|&&byte| byte == b'\n').count();
             assert!(line as usize <= feeds + 1);
         }
-    }
-}
-
-// The program `cases`.
-
-fn unescaped(text: &str) -> Vec<u8> {
-    let mut bytes = Vec::new();
-    let mut letters = text.chars();
-    while let Some(letter) = letters.next() {
-        let byte = match letter {
-            '\\' => match letters.next() {
-                Some('n') => 10,
-                Some('t') => 9,
-                Some('x') => {
-                    let digits: String = letters.by_ref().take(2).collect();
-                    u8::from_str_radix(&digits, 16).expect("two hexadecimal digits")
-                }
-                Some(other) => other as u8,
-                None => panic!("a backslash at the end"),
-            },
-            other => other as u8,
-        };
-        bytes.push(byte);
-    }
-    bytes
-}
-
-#[test]
-fn cases_prints_lent_bytes_sheet_and_text() {
-    let program = env!("CARGO_BIN_EXE_cases");
-    let output = std::process::Command::new(program)
-        .args(["600", "1"])
-        .output()
-        .expect("the program runs");
-    assert!(output.status.success());
-    let text = String::from_utf8(output.stdout).expect("the output is text");
-    assert_eq!(text.lines().count(), 600);
-    for line in text.lines() {
-        let fields: Vec<&str> = line.split('\t').collect();
-        let [lent, sheet, wanted] = fields[..] else {
-            panic!("{line}");
-        };
-        let lent: usize = lent.parse().expect("a number");
-        assert_eq!(printed(&unescaped(sheet), lent), unescaped(wanted));
     }
 }

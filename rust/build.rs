@@ -24,7 +24,7 @@ fn folder() -> PathBuf {
     match env::var_os("PAVEBOX_LIB_DIR") {
         Some(folder) => PathBuf::from(folder),
         // Cargo runs this in the package's folder, but the compiler may run elsewhere.
-        None => package_folder().join("../../target/staticlib"),
+        None => package_folder().join("../target/staticlib"),
     }
 }
 

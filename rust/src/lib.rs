@@ -110,28 +110,45 @@ pub fn entry(sheet: &[u8], output: &mut [u8], answer: &mut [u8]) -> u32 {
 mod tests {
     use super::*;
 
-    const SHEET_A: &[u8] = b"sheet=1\nkeys=2\nsecret=1:300\ndo=receive\ndo=read 0 1\ndo=put 1 0\n\
-        do=send\ndo=stop\nmsg=0:1500,1:1480\nturns=LHLHLHLHLH\n";
+    /// Takes a message, sends it, and begins again until the letters are used.
+    const SHEET: &[u8] =
+        b"sheet=1\nkeys=1\ndo=receive\ndo=send\ndo=jump 0\nmsg=0:7\nturns=LHLHLHL\n";
 
     #[test]
-    fn sheet_a_sends_one_line() {
-        let mut output = [b'~'; 40];
-        let answer = run(SHEET_A, &mut output);
-        assert_eq!(answer.numbers(), [0, 0, 9, 5, 34, 1]);
-        assert_eq!(&output, b"sent=0006 +0000001500 +0000001480\n~~~~~~");
+    fn lines_stand_at_the_start_of_the_output() {
+        let mut output = [b'~'; 25];
+        let answer = run(SHEET, &mut output);
+        assert_eq!(answer.numbers(), [LETTERS_USED, 0, 7, 4, 22, 1]);
+        assert_eq!(&output, b"sent=0002 +0000000007\n~~~");
+    }
+
+    #[test]
+    fn each_number_has_its_name_and_place() {
+        let bytes = std::array::from_fn(|place| place as u8);
+        let answer = Answer {
+            ending: 0x03_02_01_00,
+            line: 0x07_06_05_04,
+            positions: 0x0b_0a_09_08,
+            low_steps: 0x0f_0e_0d_0c,
+            written: 0x13_12_11_10,
+            taken: 0x17_16_15_14,
+        };
+        assert_eq!(Answer::from_bytes(&bytes), answer);
+        let bytes_again = answer.numbers().map(u32::to_le_bytes).concat();
+        assert_eq!(bytes_again, bytes);
     }
 
     #[test]
     fn empty_memories_are_lawful() {
-        assert_eq!(run(SHEET_A, &mut []).numbers(), [32, 0, 6, 3, 0, 1]);
+        assert_eq!(run(SHEET, &mut []).numbers(), [NO_ROOM, 0, 2, 1, 0, 1]);
         assert_eq!(run(&[], &mut []).numbers(), [2, 1, 0, 0, 0, 0]);
         assert_eq!(entry(&[], &mut [], &mut []), BAD_ANSWER);
     }
 
     #[test]
     fn an_answer_memory_of_another_length_stays_as_it_is() {
-        let (mut output, mut answer) = ([b'~'; 40], [b'~'; 25]);
-        assert_eq!(entry(SHEET_A, &mut output, &mut answer), BAD_ANSWER);
-        assert_eq!((output, answer), ([b'~'; 40], [b'~'; 25]));
+        let (mut output, mut answer) = ([b'~'; 25], [b'~'; 25]);
+        assert_eq!(entry(SHEET, &mut output, &mut answer), BAD_ANSWER);
+        assert_eq!((output, answer), ([b'~'; 25], [b'~'; 25]));
     }
 }
