@@ -1,22 +1,47 @@
 -- P1 to P11 hold: antt computes each.
 use mathlib.Core.Path.{refl}
-use Rattle.model.specs.Bytes as Bytes
+use Rattle.model.specs.Text as Text
 use Rattle.model.specs.Number as Number
-use Rattle.model.specs.Commands as Commands
-use Rattle.model.specs.Line as Line
+use Rattle.model.specs.Command as Command
+use Rattle.model.specs.Head as Head
+use Rattle.model.specs.Pair as Pair
+use Rattle.model.specs.Messages as Messages
+use Rattle.model.specs.Turns as Turns
 use Rattle.model.specs.Phase as Phase
-use Rattle.model.specs.Reading as Reading
-use Rattle.model.specs.Arithmetic as Arithmetic
-use Rattle.model.specs.Execution as Execution
+use Rattle.model.specs.Program as Program
+use Rattle.model.specs.Sheet as Sheet
+use Rattle.model.specs.Arith as Arith
+use Rattle.model.specs.Step as Step
+use Rattle.model.specs.State as State
+use Rattle.model.specs.Message as Message
 use Rattle.model.specs.Run as Run
 use Rattle.model.specs.Output as Output
+use Rattle.model.specs.Verdict as Verdict
 use Rattle.model.specs.Answer as Answer
 use Rattle.model.specs.Examples as Examples
 use Rattle.model.specs.Examples.{AllHold, list}
 
 -- opens every definition that a run of a sheet goes through
 unfoldable pub opened : Unit {0}
-unfolding Bytes.bytes Bytes.classOf Bytes.same Bytes.find Bytes.divide Bytes.split Bytes.init Bytes.lines Bytes.count Number.digits Number.natural Number.within Number.upTo Number.fromOne Number.negative Number.positive Number.number Commands.table Commands.operand Commands.operands Commands.rowOf Commands.byRow Commands.words Commands.readCommand Line.sheetLine Line.keysLine Line.pair Line.part Line.secretLine Line.parts Line.message Line.messageLine Line.letter Line.letters Line.turnsLine Phase.after Phase.one Phase.many Phase.oneMore Reading.readFirst Reading.readKeys Reading.readSecrets Reading.readCommands Reading.readMessages Reading.readTurns Reading.targets Reading.readLines Reading.forbiddenLine Reading.closed Reading.readSheet Arithmetic.clamp Arithmetic.sum Arithmetic.difference Arithmetic.product Arithmetic.quotient Execution.does Execution.callOf Run.entry Run.refill Run.step Run.command Run.stopped Run.at Run.put Run.each Run.shown Run.fill Run.received Run.takes Run.receive Run.source Run.columns Run.send Run.share Run.lead Run.waits Run.followed Run.follow Run.counted Run.turn Run.lineLength Run.written Run.short Run.noRoom Run.verdict Run.ended Run.run Run.fresh Run.initial Run.runJob Output.digits Output.sign Output.cell Output.cells Output.heading Output.lineBytes Output.bytesOf Output.memoryAfter Answer.numbersOf Answer.runSheet Answer.decimal Answer.natural Answer.spaced Answer.report Answer.printed Examples.result Examples.sheetA Examples.sheet8 Examples.list
+unfolding Text.bytes Text.classOf Text.same Text.find Text.divide Text.split Text.init Text.lines Text.count
+    Number.digits Number.natural Number.within Number.upTo Number.fromOne Number.negative Number.positive Number.number
+    Phase.after Phase.one Phase.many Phase.oneMore
+    Pair.pair Pair.part
+    Head.sheetLine Head.keysLine Head.secretLine Head.readFirst Head.readKeys Head.readSecrets
+    Command.table Command.operand Command.operands Command.rowOf Command.byRow Command.words Command.readCommand
+    Program.readCommands
+    Messages.parts Messages.message Messages.messageLine Messages.readMessages
+    Turns.letter Turns.letters Turns.turnsLine Turns.readTurns
+    Sheet.targets Sheet.readBody Sheet.readLines Sheet.forbiddenLine Sheet.closed Sheet.readSheet
+    Arith.clamp Arith.sum Arith.difference Arith.product Arith.quotient
+    Step.does Step.callOf
+    State.entry State.refill State.step State.command State.stopped State.at State.put State.each
+    Message.shown Message.fill Message.received Message.takes Message.receive Message.source Message.columns Message.send
+    Verdict.waits Verdict.written Verdict.short Verdict.idles Verdict.noRoom Verdict.verdict
+    Run.share Run.lead Run.followed Run.follow Run.counted Run.turn Run.ended Run.run Run.fresh Run.initial Run.runJob
+    Output.lineLength Output.digits Output.sign Output.cell Output.cells Output.heading Output.lineBytes Output.bytesOf Output.memoryAfter
+    Answer.numbersOf Answer.runSheet Answer.decimal Answer.natural Answer.spaced Answer.report Answer.printed
+    Examples.result Examples.sheetA Examples.sheet8 Examples.list
 opened = tt
 
 pub examples : AllHold list

@@ -1,7 +1,9 @@
 -- The proofs about the model.
 pub mod Examples
-pub mod Counting
+pub mod Stored
+pub mod Counted
 pub mod Lockstep
-pub mod Bytes
+pub mod Output
 pub mod Secrecy
-pub mod Accepting
+pub mod Accepted
+pub mod Witness

@@ -1,15 +1,16 @@
 -- Two runs in lockstep: what all but one source see stays equal, turn by turn, to the end.
-use Prim.Native.Nat.{ℕ, suc, _+_, _*_, _-_, _<_, zero-le, suc-le-suc}
+use Prim.Native.Nat.{ℕ, suc, _+_, _<_, zero-le, suc-le-suc}
 use mathlib.Core.Path.{_≡_, refl, sym, _∙_, ap, ap₂, subst}
 use mathlib.Core.Logic.{_≢_}
-use mathlib.Core.Bool.{Bool}
 use mathlib.Core.List.{List, [], _∷_, _++_}
 use lib.ListN.{length, getD, drop}
 use lib.Seq.{getD-drop}
-use lib.Dec.{ltb}
 use native.Mathlib.Numerals.{one-add}
-use Rattle.model.specs.Execution.{callOf}
-use Rattle.model.specs.Run.{Process, Processes, Sent, Common, State, Outcome, fieldsOf, refill, step, command, stopped, at, put, each, process, withProcess, shown, source, fill, takes, received, receive, columns, send, share, counted, lead, followed, follow, turn, lineLength, written, short, allUsed, noRoom, verdictBy, verdict, ended, settle, run, initial}
+use Rattle.model.specs.Step.{callOf}
+use Rattle.model.specs.State.{Process, Processes, Sent, Common, State, fieldsOf, refill, step, command, at, put, each, process, withProcess}
+use Rattle.model.specs.Run.{Outcome, share, counted, lead, followed, follow, turn, ended, settle, run, initial}
+use Rattle.model.specs.Message.{shown, source, fill, takes, received, receive, columns, send}
+use Rattle.model.specs.Verdict.{written, noRoom, verdict}
 use Rattle.model.specs.declared.Entry.{Entry}
 use Rattle.model.specs.declared.Entry.the-variants.{Absent}
 use Rattle.model.specs.declared.Command.{Command}
@@ -38,20 +39,20 @@ pub data Changed (l m : Level) : Type 0 where
   same : l ≡ m → ((p : Process) (ps : Processes) → at m (put l p ps) ≡ p) → Changed l m
   other : ((p : Process) (ps : Processes) → at m (put l p ps) ≡ at m ps) → Changed l m
 
-pub changed : (l m : Level) → Changed l m
+changed : (l m : Level) → Changed l m
 unfolding at put
 changed Low Low = same refl (λ p ps. refl)
 changed Low High = other (λ p ps. refl)
 changed High Low = other (λ p ps. refl)
 changed High High = same refl (λ p ps. refl)
 
-pub at-each : (f : Level → Process → Process) (l : Level) (ps : Processes) → at l (each f ps) ≡ f l (at l ps)
+at-each : (f : Level → Process → Process) (l : Level) (ps : Processes) → at l (each f ps) ≡ f l (at l ps)
 unfolding at each
 at-each f Low ps = refl
 at-each f High ps = refl
 
 -- an execution other than o's is shown the same of two entries that are equal unless o owns their key
-pub shown-alike : (o : Level) → Low ≢ o → (l : Level) → l ≢ o → (k : Key) {e f : Entry} → (source k ≢ o → e ≡ f) → shown l k e ≡ shown l k f
+shown-alike : (o : Level) → Low ≢ o → (l : Level) → l ≢ o → (k : Key) {e f : Entry} → (source k ≢ o → e ≡ f) → shown l k e ≡ shown l k f
 unfolding shown source
 shown-alike o hid Low lo Open h = h hid
 shown-alike o hid Low lo (Secret d) h = refl
@@ -101,24 +102,27 @@ pub record Same (o : Level) (ks : List Key) (x y : Outcome) : Type 0 where
 
 -- ---- Its parts
 
-pub sent-snoc : (o : Level) (ks : List Key) {xs ys : List Sent} {x y : Sent} → SentLike o ks xs ys → LinesAgree o ks x y → SentLike o ks (xs ++ (x ∷ [])) (ys ++ (y ∷ []))
+sent-snoc : (o : Level) (ks : List Key) {xs ys : List Sent} {x y : Sent} → SentLike o ks xs ys → LinesAgree o ks x y → SentLike o ks (xs ++ (x ∷ [])) (ys ++ (y ∷ []))
 sent-snoc o ks none h = more h none
 sent-snoc o ks (more g r) h = more g (sent-snoc o ks r h)
 
-pub sent-count : (o : Level) (ks : List Key) {xs ys : List Sent} → SentLike o ks xs ys → length xs ≡ length ys
+sent-count : (o : Level) (ks : List Key) {xs ys : List Sent} → SentLike o ks xs ys → length xs ≡ length ys
 sent-count o ks none = refl
 sent-count o ks (more g r) = ap suc (sent-count o ks r)
 
 -- the part of two lines from key 1 on
 tail-alike : (o : Level) (k : Key) (ks : List Key) (a b : List Entry) → LineLike o (k ∷ ks) a b → LineLike o ks (drop 1 a) (drop 1 b)
-tail-alike o k ks a b h i below own = getD-drop 1 a i Absent ∙ ap (λ (n : ℕ). getD a n Absent) (one-add i) ∙ h (suc i) (suc-le-suc below) own ∙ sym (getD-drop 1 b i Absent ∙ ap (λ (n : ℕ). getD b n Absent) (one-add i))
+tail-alike o k ks a b h i below own = tail a ∙ h (suc i) (suc-le-suc below) own ∙ sym (tail b)
+  where
+    tail : (es : List Entry) → getD (drop 1 es) i Absent ≡ getD es (suc i) Absent
+    tail es = getD-drop 1 es i Absent ∙ ap (λ (n : ℕ). getD es n Absent) (one-add i)
 
-pub fill-alike : (o : Level) → Low ≢ o → (l : Level) → l ≢ o → (ks : List Key) (a b : List Entry) → LineLike o ks a b → fill l ks a ≡ fill l ks b
+fill-alike : (o : Level) → Low ≢ o → (l : Level) → l ≢ o → (ks : List Key) (a b : List Entry) → LineLike o ks a b → fill l ks a ≡ fill l ks b
 unfolding fill
 fill-alike o hid l lo [] a b h = refl
 fill-alike o hid l lo (k ∷ ks) a b h = ap₂ _∷_ (shown-alike o hid l lo k (h 0 (suc-le-suc zero-le))) (fill-alike o hid l lo ks (drop 1 a) (drop 1 b) (tail-alike o k ks a b h))
 
-pub columns-alike : (o : Level) (ks : List Key) (s t : State) → Like o ks s t → (i : ℕ) (js : List Key) → Agree o js (columns i js (fieldsOf s)) (columns i js (fieldsOf t))
+columns-alike : (o : Level) (ks : List Key) (s t : State) → Like o ks s t → (i : ℕ) (js : List Key) → Agree o js (columns i js (fieldsOf s)) (columns i js (fieldsOf t))
 unfolding columns
 columns-alike o ks s t h i [] = done
 columns-alike o ks s t h i (j ∷ js) = next (λ own. ap (λ (p : Process). getD (p .fields) i Absent) (h .processes (source j) own)) (columns-alike o ks s t h (suc i) js)
@@ -142,11 +146,18 @@ module _ (o : Level) (hid : Low ≢ o) (ks : List Key) where
 
   receive-alike : (s t : State) → Like o ks s t → Like o ks (receive ks s) (receive ks t)
   unfolding receive
-  receive-alike s t h = record { processes = λ l lo. at-each _ l (s .processes) ∙ ap₂ refill (received-alike _ _ (h .common .rest) l lo) (h .processes l lo) ∙ sym (at-each _ l (t .processes)); common = takes-alike _ _ _ _ (h .common .rest) (h .common) }
+  receive-alike s t h =
+      record {
+        processes = λ l lo. at-each _ l (s .processes) ∙ ap₂ refill (received-alike _ _ (h .common .rest) l lo) (h .processes l lo) ∙ sym (at-each _ l (t .processes));
+        common = takes-alike _ _ _ _ (h .common .rest) (h .common);
+      }
 
   send-alike : (s t : State) → Like o ks s t → Like o ks (send ks s) (send ks t)
   unfolding send
-  send-alike s t h = let c : CommonLike o ks (s .common) (t .common) = h .common in record { processes = h .processes; common = record { rest = c .rest; taken = c .taken; sent = sent-snoc o ks (c .sent) (record { position = c .positions; columns = columns-alike o ks s t h 0 ks }); positions = c .positions; steps = c .steps } }
+  send-alike s t h =
+      let c : CommonLike o ks (s .common) (t .common) = h .common in
+      let lines = sent-snoc o ks (c .sent) (record { position = c .positions; columns = columns-alike o ks s t h 0 ks }) in
+      record { processes = h .processes; common = record { rest = c .rest; taken = c .taken; sent = lines; positions = c .positions; steps = c .steps } }
 
   share-alike : (c : Call) (s t : State) → Like o ks s t → Like o ks (share c ks s) (share c ks t)
   unfolding share
@@ -156,7 +167,11 @@ module _ (o : Level) (hid : Low ≢ o) (ks : List Key) where
 
   counted-alike : (n : ℕ) (s t : State) → Like o ks s t → Like o ks (counted n s) (counted n t)
   unfolding counted
-  counted-alike n s t h = let c : CommonLike o ks (s .common) (t .common) = h .common in record { processes = h .processes; common = record { rest = c .rest; taken = c .taken; sent = c .sent; positions = ap (λ (m : ℕ). m + 1) (c .positions); steps = ap (λ (m : ℕ). m + n) (c .steps) } }
+  counted-alike n s t h =
+      let c : CommonLike o ks (s .common) (t .common) = h .common in
+      let positions = ap (λ (m : ℕ). m + 1) (c .positions) in
+      let steps = ap (λ (m : ℕ). m + n) (c .steps) in
+      record { processes = h .processes; common = record { rest = c .rest; taken = c .taken; sent = c .sent; positions = positions; steps = steps } }
 
   put-alike : {l m : Level} → Changed l m → (p q : Process) (s t : State) → (l ≢ o → p ≡ q) → m ≢ o → process m s ≡ process m t → process m (withProcess l p s) ≡ process m (withProcess l q t)
   put-alike (same e f) p q s t g mo h = f p (s .processes) ∙ g (λ lo. mo (sym e ∙ lo)) ∙ sym (f q (t .processes))
@@ -168,7 +183,7 @@ module _ (o : Level) (hid : Low ≢ o) (ks : List Key) where
   -- At the low execution: equal low processes stay equal, and so does what all but o see of the message and the output
   lead-alike : (n : ℕ) (c : Command) (s t : State) → Like o ks s t → Like o ks (lead ks n c s) (lead ks n c t)
   unfolding lead
-  lead-alike n c s t h = let g : Like o ks (share (callOf (c .op)) ks s) (share (callOf (c .op)) ks t) = share-alike (callOf (c .op)) s t h in with-alike Low _ _ _ _ (λ lo. ap (step n c) (g .processes Low hid)) g
+  lead-alike n c s t h = let g = share-alike (callOf (c .op)) s t h in with-alike Low _ _ _ _ (λ lo. ap (step n c) (g .processes Low hid)) g
 
   module _ (cs : List Command) where
     -- At any other execution: o's own turn changes nothing that the others see, and theirs start from equal processes
@@ -178,33 +193,28 @@ module _ (o : Level) (hid : Low ≢ o) (ks : List Key) where
 
     turn-alike : (l : Level) (s t : State) → Like o ks s t → Like o ks (turn ks cs l s) (turn ks cs l t)
     unfolding turn
-    turn-alike Low s t h = counted-alike 1 _ _ (subst (λ (p : Process). Like o ks (lead ks (length cs) (command cs (process Low s)) s) (lead ks (length cs) (command cs p) t)) (h .processes Low hid) (lead-alike (length cs) (command cs (process Low s)) s t h))
+    turn-alike Low s t h =
+        let led : Process → State → State = λ p. lead ks (length cs) (command cs p) in
+        counted-alike 1 _ _ (subst (λ (p : Process). Like o ks (led (process Low s) s) (led p t)) (h .processes Low hid) (lead-alike (length cs) _ s t h))
     turn-alike High s t h = counted-alike 0 _ _ (follow-alike High s t h)
 
     -- ---- The endings
 
     ended-alike : (e : Ending) (s t : State) → Like o ks s t → Same o ks (ended ks e s) (ended ks e t)
     unfolding ended written
-    ended-alike e s t h = record { ending = refl; counts = λ i. record { positions = h .common .positions i; steps = h .common .steps i; bytes = lineLength ks * sent-count o ks (h .common .sent) i; taken = h .common .taken i }; lines = h .common .sent }
-
-    short-alike : (room : ℕ) (c : Call) (s t : State) → Like o ks s t → short ks room c s ≡ short ks room c t
-    unfolding short written
-    short-alike room Neither s t h = refl
-    short-alike room Receives s t h = refl
-    short-alike room Sends s t h = ap (λ (n : ℕ). ltb (room - lineLength ks * n) (lineLength ks)) (sent-count o ks (h .common .sent))
+    ended-alike e s t h =
+        let c : CommonLike o ks (s .common) (t .common) = h .common in
+        record { ending = refl; counts = cc (c .positions, c .steps, sent-count o ks (c .sent), c .taken); lines = c .sent }
 
     no-room-alike : (room : ℕ) (ls : List Level) (s t : State) → Like o ks s t → noRoom ks cs room ls s ≡ noRoom ks cs room ls t
-    unfolding noRoom
+    unfolding noRoom written
     no-room-alike room [] s t h = refl
-    no-room-alike room (Low ∷ ls) s t h = short-alike room (callOf (command cs (process Low s) .op)) s t h ∙ ap (λ (p : Process). short ks room (callOf (command cs p .op)) t) (h .processes Low hid)
+    no-room-alike room (Low ∷ ls) s t h = cc (h .processes Low hid, sent-count o ks (h .common .sent))
     no-room-alike room (High ∷ ls) s t h = refl
 
     verdict-alike : (room : ℕ) (ls : List Level) (s t : State) → Like o ks s t → verdict ks cs room ls s ≡ verdict ks cs room ls t
     unfolding verdict
-    verdict-alike room ls s t h =
-        ap₂ (λ (a b : Bool). verdictBy a (allUsed ls) b)
-        (ap (stopped cs) (h .processes Low hid))
-        (no-room-alike room ls s t h)
+    verdict-alike room ls s t h = cc (h .processes Low hid, no-room-alike room ls s t h)
 
     settle-same : (v : Verdict) (s t : State) (x y : Outcome) → Like o ks s t → Same o ks x y → Same o ks (settle ks v s x) (settle ks v t y)
     settle-same GoesOn s t x y h later = later

@@ -1,29 +1,28 @@
 -- The secrecy rule holds, for every owner other than the low level.
-use Prim.Native.Nat.{ℕ, suc, _+_, _*_, _<_}
-use mathlib.Core.Path.{_≡_, sym, _∙_, ap, ap₂, subst, subst⁻¹}
+use Prim.Native.Nat.{ℕ, suc, _+_}
+use mathlib.Core.Path.{_≡_, sym, _∙_, ap, ap₂, subst}
 use mathlib.Core.Logic.{_≢_}
 use mathlib.Core.List.{List, [], _∷_}
 use lib.ListN.{length, getD, drop, length-append}
 use native.Mathlib.Omega.{arith}
 use native.Mathlib.Nat.{suc-inj}
 use Rattle.model.specs.Job.{Job}
-use Rattle.model.specs.Run.{Outcome, source, lineLength, initial, runJob}
-use Rattle.model.specs.Output.{bytesOf, memoryAfter}
-use Rattle.model.specs.Answer.{leftBy, leave, numbersOf, runSheet}
+use Rattle.model.specs.Run.{Outcome, runJob}
+use Rattle.model.specs.Message.{source}
+use Rattle.model.specs.Output.{lineLength, bytesOf, memoryAfter}
+use Rattle.model.specs.Answer.{leftBy, numbersOf, runSheet}
 use Rattle.model.specs.Secrecy.{OwnedBy, Hidden, Indistinguishable, SecrecyOf, SheetSecrecyOf}
 use Rattle.model.specs.declared.Entry.{Entry}
-use Rattle.model.specs.declared.Entry.the-variants.{Absent}
 use Rattle.model.specs.declared.Level.{Level}
-use Rattle.model.specs.declared.Level.the-variants.{High}
-use Rattle.model.specs.declared.Level.the-variants.{Low}
+use Rattle.model.specs.declared.Level.the-variants.{Low, High}
 use Rattle.model.specs.declared.Key.{Key}
 use Rattle.model.specs.declared.Key.the-variants.{Open, Secret}
 use Rattle.model.specs.declared.Counts.{Counts}
 use Rattle.model.specs.declared.Ending.{Ending}
 use Rattle.model.specs.declared.Answer.the-variants.{Ended}
-use Rattle.model.proofs.Lockstep.{RestLike, Same, run-alike, initial-alike, low≢high}
-use Rattle.model.proofs.Bytes.{split, bytes-length, bytes-at}
-use Rattle.model.proofs.Counting.{bytes-counted}
+use Rattle.model.proofs.Lockstep.{LineLike, RestLike, Same, run-alike, initial-alike, low≢high}
+use Rattle.model.proofs.Output.{split, bytes-at}
+use Rattle.model.proofs.Counted.{counts-of}
 
 -- a key is o's secret exactly where its column comes from o's execution
 owned-source : (o : Level) (k : Key) → OwnedBy o k → source k ≡ o
@@ -37,52 +36,57 @@ source-owned o hid Open h = absurd (hid h)
 source-owned o hid (Secret d) h = sym h
 
 -- the messages, from one by one to line by line
-rest-alike : (o : Level) (ks : List Key) (a b : List (List Entry)) → length a ≡ length b → ((j k : ℕ) → k < length ks → source (getD ks k Open) ≢ o → getD (getD a j []) k Absent ≡ getD (getD b j []) k Absent) → RestLike o ks a b
+rest-alike : (o : Level) (ks : List Key) (a b : List (List Entry)) → length a ≡ length b → ((j : ℕ) → LineLike o ks (getD a j []) (getD b j [])) → RestLike o ks a b
 rest-alike o ks [] [] e h = tt
 rest-alike o ks [] (b ∷ bs) e h = omega arith
 rest-alike o ks (a ∷ xs) [] e h = omega arith
 rest-alike o ks (a ∷ xs) (b ∷ bs) e h = (h 0, rest-alike o ks xs bs (suc-inj e) (λ j. h (suc j)))
 
+-- an outcome has as many bytes in its lines as it counts
+abbrev Exact : Outcome → Type 0
+Exact x = length (bytesOf (x .lines)) ≡ x .counts .bytes
+
 -- what two outcomes that are the same to all but o leave of one memory
-module _ (o : Level) (ks : List Key) (m : List ℕ) (x y : Outcome) (hid : Low ≢ o) (same : Same o ks x y) (counted : x .counts .bytes ≡ lineLength ks * length (x .lines)) where
-  size : length (bytesOf (x .lines)) ≡ length (bytesOf (y .lines))
-  size = bytes-length o (same .lines) .0 ∙ sym (bytes-length o (same .lines) .1)
+module _ (o : Level) (ks : List Key) (m : List ℕ) (x y : Outcome) (hid : Low ≢ o) (same : Same o ks x y) (ex : Exact x) (ey : Exact y) where
+  size : length (bytesOf (y .lines)) ≡ x .counts .bytes
+  size = ey ∙ sym (ap (λ (c : Counts). c .bytes) (same .counts))
 
   memory-size : length (memoryAfter m (x .lines)) ≡ length (memoryAfter m (y .lines))
   unfolding memoryAfter
-  memory-size = length-append (bytesOf (x .lines)) _ ∙ ap (λ (n : ℕ). n + length (drop n m)) size ∙ sym (length-append (bytesOf (y .lines)) _)
+  memory-size = length-append (bytesOf (x .lines)) _ ∙ ap (λ (n : ℕ). n + length (drop n m)) (ex ∙ sym size) ∙ sym (length-append (bytesOf (y .lines)) _)
 
-  memory-byte : (p : ℕ) → ¬ Hidden o ks (lineLength ks * length (x .lines)) p → getD (memoryAfter m (x .lines)) p 0 ≡ getD (memoryAfter m (y .lines)) p 0
+  memory-byte : (p : ℕ) → ¬ Hidden o ks (x .counts .bytes) p → getD (memoryAfter m (x .lines)) p 0 ≡ getD (memoryAfter m (y .lines)) p 0
   unfolding memoryAfter lineLength
   memory-byte p clear =
-      split (bytesOf (x .lines)) (bytesOf (y .lines)) (drop (length (bytesOf (x .lines))) m) (drop (length (bytesOf (y .lines))) m) (lineLength ks * length (x .lines)) (bytes-length o (same .lines) .0) (bytes-length o (same .lines) .1) p
-      (λ below. bytes-at o (same .lines) p (λ k isKey own from to. clear (record { below = below; key = k; isKey = isKey; owned = source-owned o hid _ own; from = from; to = to })))
-      (λ r eq. ap (λ (n : ℕ). getD (drop n m) r 0) size)
+      split (bytesOf (x .lines)) (bytesOf (y .lines)) _ _ (x .counts .bytes) ex size p
+      (λ below. bytes-at o (same .lines) p (λ k isKey own from to.
+      clear (record { below = omega arith; key = k; isKey = isKey; owned = source-owned o hid _ own; from = omega arith; to = omega arith })))
+      (λ r eq. ap (λ (n : ℕ). getD (drop n m) r 0) (ex ∙ sym size))
 
   indistinguishable : Indistinguishable o ks (leftBy m x) (leftBy m y)
   unfolding numbersOf
-  indistinguishable =
-      record {
-        numbers = ap₂ (λ (e : Ending) (c : Counts). numbersOf (Ended e c)) (same .ending) (same .counts);
-        size = memory-size;
-        byte = λ p clear. memory-byte p (λ hidden. clear (subst⁻¹ (λ (n : ℕ). Hidden o ks n p) counted hidden));
-      }
+  indistinguishable = record { numbers = ap₂ (λ (e : Ending) (c : Counts). numbersOf (Ended e c)) (same .ending) (same .counts); size = memory-size; byte = memory-byte }
 
--- for two jobs that differ in their messages alone
-messages-alike : (o : Level) → Low ≢ o → (a : Job) (ms : List (List Entry)) (m : List ℕ) → RestLike o (a .keys) (a .messages) ms
-    → Indistinguishable o (a .keys) (leftBy m (runJob a (length m))) (leftBy m (runJob (record { keys = a .keys; commands = a .commands; messages = ms; turns = a .turns }) (length m)))
+-- a job with other messages
+abbrev given : Job → List (List Entry) → Job
+given a ms = record { keys = a .keys; commands = a .commands; messages = ms; turns = a .turns }
+
+-- what the runs of two jobs leave of one memory
+abbrev Hides : Level → List ℕ → Job → Job → Type 0
+Hides o m a b = Indistinguishable o (a .keys) (leftBy m (runJob a (length m))) (leftBy m (runJob b (length m)))
+
+messages-alike : (o : Level) → Low ≢ o → (a : Job) (ms : List (List Entry)) (m : List ℕ) → RestLike o (a .keys) (a .messages) ms → Hides o m a (given a ms)
 unfolding runJob
 messages-alike o hid a ms m r =
     indistinguishable o (a .keys) m _ _ hid
     (run-alike o hid (a .keys) (a .commands) (length m) (a .turns) _ _ (initial-alike o hid (a .keys) (a .messages) ms r))
-    (bytes-counted (a .keys) (a .commands) (length m) (initial (a .keys) (a .messages)) (a .turns))
+    (counts-of a (length m) .sent) (counts-of (given a ms) (length m) .sent)
 
 pub secrecy-of : (o : Level) → Low ≢ o → SecrecyOf o
 secrecy-of o hid a b m h =
-    let c : Job = record { keys = a .keys; commands = a .commands; messages = b .messages; turns = a .turns } in
-    let path : c ≡ b = λ i. record { keys = h .keys i; commands = h .commands i; messages = b .messages; turns = h .turns i } in
-    let rest : RestLike o (a .keys) (a .messages) (b .messages) = rest-alike o (a .keys) (a .messages) (b .messages) (h .count) (λ j k isKey own. h .entries j k isKey (λ mine. own (owned-source o _ mine))) in
-    subst (λ (j : Job). Indistinguishable o (a .keys) (leftBy m (runJob a (length m))) (leftBy m (runJob j (length m)))) path (messages-alike o hid a (b .messages) m rest)
+    let path : given a (b .messages) ≡ b = λ i. record { keys = h .keys i; commands = h .commands i; messages = b .messages; turns = h .turns i } in
+    let rest = rest-alike o (a .keys) (a .messages) (b .messages) (h .count) (λ j k isKey own. h .entries j k isKey (λ mine. own (owned-source o _ mine))) in
+    subst (Hides o m a) path (messages-alike o hid a (b .messages) m rest)
 
 pub sheet-secrecy-of : (o : Level) → Low ≢ o → SheetSecrecyOf o
 unfolding runSheet

@@ -1,20 +1,27 @@
--- What the job of an accepted sheet satisfies: every number is within its limit.
-use Prim.Native.Nat.{ℕ, _-_, _<_, _≤_}
-use mathlib.Core.Path.{_≡_}
-use mathlib.Core.List.{List, [], _∷_}
-use lib.IntN.{ℤ}
+-- What the job of an accepted sheet satisfies: every number is within its limit, and a command has no operand but its word's.
+use Prim.Native.Nat.{_≤_, ℕ, _<_}
+use lib.IntN.{ℤ, pos}
 use lib.Signed.{mag}
-use lib.ListN.{length}
-use Rattle.model.specs.Limits.{mostKeys, mostCommands, mostMessages, mostLetters, variables, greatestNumber}
-use Rattle.model.specs.Parsed.{ok}
-use Rattle.model.specs.Line.{pair}
+use lib.Dec.{eqb}
+use mathlib.Core.Bool.{Bool, true, false, cond}
+use mathlib.Core.List.{List, [], _∷_}
+use mathlib.Core.Path.{_≡_}
+use lib.ListN.{length, getD}
+use Rattle.model.specs.Limits.{greatestNumber, variables, mostKeys, mostCommands, mostMessages, mostLetters}
+use Rattle.model.specs.Command.{Row, table}
 use Rattle.model.specs.Job.{Job}
-use Rattle.model.specs.Reading.{accepted, readSheet}
-use Rattle.model.specs.declared.Entry.{Entry}
-use Rattle.model.specs.declared.Entry.the-variants.{Absent, Number}
+use Rattle.model.specs.Sheet.{accepted, readSheet}
+use Rattle.model.specs.Parsed.{got}
+use Rattle.model.specs.Pair.{pair}
 use Rattle.model.specs.declared.Key.{Key}
 use Rattle.model.specs.declared.Key.the-variants.{Open, Secret}
+use Rattle.model.specs.declared.Entry.{Entry}
+use Rattle.model.specs.declared.Entry.the-variants.{Absent, Number}
 use Rattle.model.specs.declared.Command.{Command}
+use Rattle.model.specs.declared.Op.{Op}
+use Rattle.model.specs.declared.Op.the-variants.{Set, Add, Sub, Mul, Div, Read, Has, Put, Drop, IfNeg, IfZero, Jump, Receive, Send, Stop}
+use Rattle.model.specs.declared.Operand.{Operand}
+use Rattle.model.specs.declared.Operand.the-variants.{InV, InW, InK, InT, InN}
 
 -- "from -2147483648 to 2147483647": `mag` of a number n is n, and of -(n + 1) it is n too
 abbrev pub InRange : ℤ → Type 0
@@ -36,6 +43,60 @@ pub record Within (keys target : ℕ) (c : Command) : Type 0 where
   pub t : c .t ≤ target
   pub n : InRange (c .n)
 
+-- ---- The operands that a command has
+
+-- the place of a word in the table, from 0
+abbrev pub placeOf : Op → ℕ
+placeOf Set = 0
+placeOf Add = 1
+placeOf Sub = 2
+placeOf Mul = 3
+placeOf Div = 4
+placeOf Read = 5
+placeOf Has = 6
+placeOf Put = 7
+placeOf Drop = 8
+placeOf IfNeg = 9
+placeOf IfZero = 10
+placeOf Jump = 11
+placeOf Receive = 12
+placeOf Send = 13
+placeOf Stop = 14
+
+-- the row of a word
+unfoldable pub rowFor : Op → Row
+rowFor o = getD table (placeOf o) (record { word = []; op = Stop; parts = [] })
+
+-- an operand is among these; two operands are compared by their numbers
+abbrev pub ordinal : Operand → ℕ
+ordinal InV = 0
+ordinal InW = 1
+ordinal InK = 2
+ordinal InT = 3
+ordinal InN = 4
+
+unfoldable pub has : List Operand → Operand → Bool
+has [] o = false
+has (p ∷ ps) o = cond (eqb (ordinal p) (ordinal o)) true (has ps o)
+
+-- what is left of a command if only these operands of it count
+unfoldable pub kept : List Operand → Command → Command
+kept os c =
+    record {
+      op = c .op;
+      v = cond (has os InV) (c .v) 0;
+      w = cond (has os InW) (c .w) 0;
+      k = cond (has os InK) (c .k) 0;
+      t = cond (has os InT) (c .t) 0;
+      n = cond (has os InN) (c .n) (pos 0);
+    }
+
+-- an operand that its word lacks is 0: what the parts of its row leave of a command is the whole command
+abbrev pub Bare : Command → Type 0
+Bare c = kept (rowFor (c .op) .parts) c ≡ c
+
+-- ---- The job
+
 -- a fact of every element of a list
 abbrev pub Every : {A : Type 0} → (A → Type 0) → List A → Type 0
 Every P [] = Unit {0}
@@ -52,6 +113,7 @@ pub record Sound (j : Job) : Type 0 where
   pub someCommands : 1 ≤ length (j .commands)
   pub mostCommands : length (j .commands) ≤ mostCommands
   pub commands : Every (Within (length (j .keys)) (length (j .commands))) (j .commands)
+  pub bare : Every Bare (j .commands)
   pub mostMessages : length (j .messages) ≤ mostMessages
   pub messages : Every (Full (length (j .keys))) (j .messages)
   pub someTurns : 1 ≤ length (j .turns)
@@ -62,4 +124,4 @@ AcceptedSound = (s : List ℕ) (j : Job) → readSheet s ≡ accepted j → Soun
 
 -- "keys rising": a key that is read lies below K and is not below the least that may come next, which is one above the key before it
 abbrev pub KeysRise : Type 0
-KeysRise = (K next : ℕ) (p : List ℕ) (kv : ℕ × ℤ) → 1 ≤ K → pair K next p ≡ ok kv → (next ≤ kv .0) × (kv .0 < K) × InRange (kv .1)
+KeysRise = (K next : ℕ) (p : List ℕ) (kv : ℕ × ℤ) → 1 ≤ K → pair K next p ≡ got kv → (next ≤ kv .0) × (kv .0 < K) × InRange (kv .1)

@@ -1,13 +1,13 @@
 -- What a run of a whole sheet answers, prints and leaves in the memories that are lent to it.
-use Prim.Native.Nat.{ℕ, zero, suc, _+_, _/_, _%_}
-use mathlib.Core.Bool.{cond}
+use Prim.Native.Nat.{ℕ, _*_, zero, suc, _+_, _/_, _%_}
 use mathlib.Core.List.{List, [], _∷_, _++_}
-use lib.Dec.{eqb, ltb}
-use lib.ListN.{length, take, getD}
-use Rattle.model.specs.Bytes.{bytes}
-use Rattle.model.specs.Reading.{Reading, refused, accepted, readSheet}
+use lib.ListN.{length, getD, take}
+use mathlib.Core.Bool.{cond}
+use lib.Dec.{ltb, eqb}
+use Rattle.model.specs.Text.{bytes, lineFeed, space, zeroDigit}
 use Rattle.model.specs.Run.{Outcome, runJob}
 use Rattle.model.specs.Output.{memoryAfter}
+use Rattle.model.specs.Sheet.{Reading, refused, accepted, readSheet}
 use Rattle.model.specs.declared.Ending.{Ending}
 use Rattle.model.specs.declared.Ending.the-variants.{Stopped, LettersUsed, NoRoom}
 use Rattle.model.specs.declared.Answer.{Answer}
@@ -30,12 +30,15 @@ pub record Left : Type 0 where
   pub answer : Answer
   pub memory : List ℕ
 
+abbrev pub left : Answer → List ℕ → Left
+left a m = record { answer = a; memory = m }
+
 abbrev pub leftBy : List ℕ → Outcome → Left
-leftBy m o = record { answer = Ended (o .ending) (o .counts); memory = memoryAfter m (o .lines) }
+leftBy m o = left (Ended (o .ending) (o .counts)) (memoryAfter m (o .lines))
 
 -- of a refused sheet "Output memory is untouched"
 abbrev pub leave : List ℕ → Reading → Left
-leave m (refused n l) = record { answer = Refused n l; memory = m }
+leave m (refused n l) = left (Refused n l) m
 leave m (accepted j) = leftBy m (runJob j (length m))
 
 -- a sheet s, and the output memory m that is lent to its run
@@ -47,7 +50,7 @@ runSheet s m = leave m (readSheet s)
 -- a number at its natural width: its decimal digits, at most f of them, before those that stand already
 unfoldable pub decimal : ℕ → ℕ → List ℕ → List ℕ
 decimal zero n s = s
-decimal (suc f) n s = cond (ltb n 10) ((48 + n) ∷ s) (decimal f (n / 10) ((48 + n % 10) ∷ s))
+decimal (suc f) n s = cond (ltb n 10) ((zeroDigit + n) ∷ s) (decimal f (n / 10) ((zeroDigit + n % 10) ∷ s))
 
 -- a number of 32 bits has at most ten digits
 unfoldable pub natural : ℕ → List ℕ
@@ -57,11 +60,11 @@ natural n = decimal 10 n []
 unfoldable pub spaced : List ℕ → List ℕ
 spaced [] = []
 spaced (n ∷ []) = natural n
-spaced (n ∷ k ∷ ns) = natural n ++ (32 ∷ spaced (k ∷ ns))
+spaced (n ∷ k ∷ ns) = natural n ++ (space ∷ spaced (k ∷ ns))
 
 -- "`end=` with the six numbers, single spaces between and a line feed last"
 unfoldable pub report : List ℕ → List ℕ
-report ns = bytes "end=" ++ (spaced ns ++ (10 ∷ []))
+report ns = bytes "end=" ++ (spaced ns ++ (lineFeed ∷ []))
 
 -- the bytes written, the fifth of the six numbers
 abbrev pub bytesWritten : List ℕ → ℕ
@@ -94,10 +97,14 @@ pub record After : Type 0 where
 abbrev pub answeredBy : Left → After
 answeredBy l = record { returned = getD (numbersOf (l .answer)) 0 0; output = l .memory; answer = allLe32 (numbersOf (l .answer)) }
 
--- the six numbers, 32 bits each
+-- "Six numbers"
+abbrev pub numberCount : ℕ
+numberCount = 6
+
+-- each in 32 bits: 24 bytes
 abbrev pub answerBytes : ℕ
-answerBytes = 24
+answerBytes = 4 * numberCount
 
 -- Refusal 10: "the answer memory is not exactly 24 bytes; returned before anything else, nothing written"
-unfoldable pub entry : List ℕ → List ℕ → List ℕ → After
-entry s m a = cond (eqb (length a) answerBytes) (answeredBy (runSheet s m)) (record { returned = 10; output = m; answer = a })
+unfoldable pub runEntry : List ℕ → List ℕ → List ℕ → After
+runEntry s m a = cond (eqb (length a) answerBytes) (answeredBy (runSheet s m)) (record { returned = 10; output = m; answer = a })

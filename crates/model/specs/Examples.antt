@@ -1,16 +1,16 @@
 -- The examples of document 01 that are marked P, from the text of the sheet to the printed bytes and numbers.
 use Prim.Native.Nat.{ℕ}
 use Prim.Native.String.{String}
-use mathlib.Core.Path.{_≡_}
 use mathlib.Core.List.{List, [], _∷_, _++_}
-use lib.ListN.{replicate}
 use lib.IntN.{ℤ, pos, negsuc}
-use Rattle.model.specs.Bytes.{bytes}
-use Rattle.model.specs.Execution.{variable, does}
+use mathlib.Core.Path.{_≡_}
+use lib.ListN.{replicate}
+use Rattle.model.specs.Step.{variable, does}
+use Rattle.model.specs.Text.{bytes}
 use Rattle.model.specs.Answer.{printed}
 use Rattle.model.specs.declared.Op.{Op}
-use Rattle.model.specs.declared.Op.the-variants.{Add, Div}
 use Rattle.model.specs.declared.Entry.the-variants.{Absent}
+use Rattle.model.specs.declared.Op.the-variants.{Add, Div}
 
 -- An example: a sheet, run with so many bytes lent, prints a text; a command on two numbers gives a third
 pub data Example : Type 0 where

@@ -4,24 +4,24 @@ use mathlib.Core.Bool.{cond}
 use mathlib.Core.List.{List, [], _∷_}
 use Prim.Native.Nat.{ℕ, _+_, _*_, _-_, pred}
 use lib.Dec.{eqb, leb}
-use lib.IntN.{ℤ, pos, negsuc}
-use Rattle.model.specs.Limits.{greatestNumber, leastNumber}
-use Rattle.model.specs.Parsed.{Parsed, ok, bad, need, _>>=_, _>>_}
-use Rattle.model.specs.Bytes.{classOf, digitClass, minus}
+use lib.IntN.{ℤ, negsuc, pos}
+use Rattle.model.specs.Parsed.{Parsed, got, refused, need, _>>_, _>>=_}
+use Rattle.model.specs.Text.{classOf, digitClass, minus, zeroDigit}
+use Rattle.model.specs.Limits.{leastNumber, greatestNumber}
 
 -- the value of digits after those that make a
 unfoldable pub digits : ℕ → List ℕ → Parsed ℕ
-digits a [] = ok a
-digits a (b ∷ bs) = cond (eqb (classOf b) digitClass) (digits (a * 10 + (b - 48)) bs) (bad 4)
+digits a [] = got a
+digits a (b ∷ bs) = cond (eqb (classOf b) digitClass) (digits (a * 10 + (b - zeroDigit)) bs) (refused 4)
 
 -- one digit, or more of which the first is not 0
 unfoldable pub natural : List ℕ → Parsed ℕ
-natural [] = bad 4
+natural [] = refused 4
 natural (b ∷ []) = digits 0 (b ∷ [])
-natural (b ∷ c ∷ bs) = cond (eqb b 48) (bad 4) (digits 0 (b ∷ c ∷ bs))
+natural (b ∷ c ∷ bs) = cond (eqb b zeroDigit) (refused 4) (digits 0 (b ∷ c ∷ bs))
 
 unfoldable pub within : ℕ → ℕ → Parsed ℕ
-within m n = need (leb n m) 4 >> ok n
+within m n = need (leb n m) 4 >> got n
 
 -- the value of digits after those that make a, at most m
 unfoldable pub digitsTo : ℕ → ℕ → List ℕ → Parsed ℕ
@@ -36,20 +36,20 @@ unfoldable pub fromOne : ℕ → List ℕ → Parsed ℕ
 fromOne m s = do
   n ← upTo m s
   need (leb 1 n) 4
-  ok n
+  got n
 
 -- what follows a minus sign
 unfoldable pub negative : List ℕ → Parsed ℤ
 negative s = do
   n ← fromOne leastNumber s
-  ok (negsuc (pred n))
+  got (negsuc (pred n))
 
 unfoldable pub positive : List ℕ → Parsed ℤ
 positive s = do
   n ← upTo greatestNumber s
-  ok (pos n)
+  got (pos n)
 
 -- a number of the full range: "Dummies and message values have the full range above."
 unfoldable pub number : List ℕ → Parsed ℤ
-number [] = bad 4
+number [] = refused 4
 number (b ∷ bs) = cond (eqb b minus) (negative bs) (positive (b ∷ bs))

@@ -1,33 +1,34 @@
 -- The bytes of the lines sent, and the output memory after a run.
-use Prim.Native.Nat.{ℕ, zero, suc, _+_, _/_, _%_}
-use mathlib.Core.Bool.{cond}
+use Prim.Native.Nat.{ℕ, zero, suc, _+_, _/_, _%_, _*_}
 use mathlib.Core.List.{List, [], _∷_, _++_}
-use lib.ListN.{length, drop, replicate}
+use mathlib.Core.Bool.{cond}
 use lib.IntN.{ℤ, natAbs}
 use lib.Signed.{nonNeg}
-use Rattle.model.specs.Bytes.{bytes}
-use Rattle.model.specs.Run.{Sent}
+use lib.ListN.{replicate, length, drop}
+use Rattle.model.specs.Text.{bytes, lineFeed, space, plus, minus, dot, zeroDigit}
+use Rattle.model.specs.State.{Sent}
 use Rattle.model.specs.declared.Entry.{Entry}
 use Rattle.model.specs.declared.Entry.the-variants.{Absent, Number}
+use Rattle.model.specs.declared.Key.{Key}
 
 -- the last w decimal digits of a number
 unfoldable pub digits : ℕ → ℕ → List ℕ
 digits zero n = []
-digits (suc w) n = digits w (n / 10) ++ ((48 + n % 10) ∷ [])
+digits (suc w) n = digits w (n / 10) ++ ((zeroDigit + n % 10) ∷ [])
 
 -- "a sign `+` or `-`"; "Zero has `+`."
 unfoldable pub sign : ℤ → ℕ
-sign z = cond (nonNeg z) 43 45
+sign z = cond (nonNeg z) plus minus
 
 -- "11 characters: a sign `+` or `-` and ten digits, or eleven dots for absent"
 unfoldable pub cell : Entry → List ℕ
-cell Absent = replicate 11 46
+cell Absent = replicate 11 dot
 cell (Number z) = sign z ∷ digits 10 (natAbs z)
 
 -- "for each key a space and 11 characters"
 unfoldable pub cells : List Entry → List ℕ
 cells [] = []
-cells (e ∷ es) = (32 ∷ cell e) ++ cells es
+cells (e ∷ es) = (space ∷ cell e) ++ cells es
 
 -- "`sent=`, the position in four digits"
 unfoldable pub heading : ℕ → List ℕ
@@ -35,7 +36,11 @@ heading n = bytes "sent=" ++ digits 4 n
 
 -- "A line feed ends it."
 unfoldable pub lineBytes : Sent → List ℕ
-lineBytes l = heading (l .position) ++ (cells (l .columns) ++ (10 ∷ []))
+lineBytes l = heading (l .position) ++ (cells (l .columns) ++ (lineFeed ∷ []))
+
+-- "That is 10 + 12 × K bytes."
+unfoldable pub lineLength : List Key → ℕ
+lineLength ks = 10 + 12 * length ks
 
 unfoldable pub bytesOf : List Sent → List ℕ
 bytesOf [] = []

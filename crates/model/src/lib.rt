@@ -1,9 +1,35 @@
 // The plain data of the confidential run. What it means is in specs/.
+//
+// The code takes every limit and every array's length from the constants here. The definitions have the same numbers in specs/Limits.antt and
+// specs/Stored.antt; where the two differ, the contracts below are not met.
 ghost use mathlib.Core.Path.{_≡_};
 ghost use Prim.Native.Nat.{_<_};
-ghost use Rattle.model.specs.Execution.{begun as Execution·begun, afterOf, calledOf};
+ghost use lib.ListN.{replicate};
+ghost use Rattle.model.specs.Limits.{variables};
+ghost use Rattle.model.specs.Command.{blank};
+ghost use Rattle.model.specs.Step.{begun as Execution·begun, afterOf, calledOf};
+ghost use Rattle.model.specs.Stored.{keyCapacity, commandCapacity, messageCapacity, openSlot, absentSlot, blankLine, nothingStored};
+ghost use Rattle.model.specs.declared.Op.the-variants.{Stop};
 
-// What the arrays hold at the most. The limits of a sheet stand apart from these, in specs/Limits.antt.
+// The limits of a sheet.
+pub const MOST_BYTES: usize = 16384;
+
+pub const MOST_KEYS: u64 = 8;
+
+pub const MOST_COMMANDS: usize = 64;
+
+pub const MOST_MESSAGES: usize = 32;
+
+pub const MOST_LETTERS: usize = 1024;
+
+pub const LAST_VARIABLE: u64 = 7;
+
+// The ends of the range of numbers, without their signs.
+pub const GREATEST_NUMBER: u64 = 2147483647;
+
+pub const LEAST_NUMBER: u64 = 2147483648;
+
+// What the arrays hold, at least as much as a sheet may have.
 pub const KEY_CAPACITY: usize = 8;
 
 pub const COMMAND_CAPACITY: usize = 64;
@@ -11,6 +37,13 @@ pub const COMMAND_CAPACITY: usize = 64;
 pub const MESSAGE_CAPACITY: usize = 32;
 
 pub const LETTER_CAPACITY: usize = 1024;
+
+pub const VARIABLES: usize = 8;
+
+// The numbers of an answer, and the bytes of the answer memory, four for each.
+pub const NUMBERS: usize = 6;
+
+pub const ANSWER_BYTES: usize = 4 * NUMBERS;
 
 // An entry of a message: absent, or one number.
 pub enum Entry {
@@ -84,7 +117,7 @@ pub enum Level {
 // The record of one execution: its place, its variables, and the calls that it has made.
 pub struct Execution {
     pub place: usize,
-    pub vars: [i32; 8],
+    pub vars: [i32; VARIABLES],
     pub calls: usize,
 }
 
@@ -95,7 +128,7 @@ impl Execution {
     {
         Execution {
             place: 0,
-            vars: [0i32; 8],
+            vars: [0i32; VARIABLES],
             calls: 0,
         }
     }
@@ -112,7 +145,7 @@ impl Execution {
 
     // The next record: the variable v has the value, the execution goes on at the place, and has made so many calls.
     pub fn after(mut self, v: usize, value: i32, place: usize, calls: usize) -> Execution
-        requires { ⌜ v < 8 ⌝ }
+        requires { ⌜ v < variables ⌝ }
         ensures { λ r. ⌜ r ≡ afterOf self v value place calls ⌝ }
     {
         self.vars[v] = value;
@@ -167,17 +200,76 @@ pub struct EntrySlot {
 
 // A message line: the entry at each key.
 pub struct MessageLine {
-    pub slots: [EntrySlot; 8],
+    pub slots: [EntrySlot; KEY_CAPACITY],
 }
 
-// A job in arrays. Of each array only as much counts as the number beside it says; a turn letter is a byte, 76 for L and 72 for H.
+impl MessageLine {
+    // Every entry absent.
+    pub fn no_entries() -> [EntrySlot; KEY_CAPACITY]
+        ensures { λ r. ⌜ r ≡ replicate keyCapacity absentSlot ⌝ }
+    {
+        [EntrySlot {
+            entry: Entry::Absent,
+        }; KEY_CAPACITY]
+    }
+}
+
+// A job in arrays. Of each array only as much counts as the number beside it says; a turn letter is its byte.
 pub struct StoredJob {
     pub keys: usize,
-    pub secrets: [KeySlot; 8],
-    pub count: usize,
-    pub commands: [Command; 64],
-    pub lines: usize,
-    pub messages: [MessageLine; 32],
-    pub letters: usize,
-    pub turns: [u8; 1024],
+    pub secrets: [KeySlot; KEY_CAPACITY],
+    pub command_count: usize,
+    pub commands: [Command; COMMAND_CAPACITY],
+    pub message_count: usize,
+    pub messages: [MessageLine; MESSAGE_CAPACITY],
+    pub turn_count: usize,
+    pub turns: [u8; LETTER_CAPACITY],
+}
+
+impl StoredJob {
+    // Every key open.
+    pub fn open_keys() -> [KeySlot; KEY_CAPACITY]
+        ensures { λ r. ⌜ r ≡ replicate keyCapacity openSlot ⌝ }
+    {
+        [KeySlot { key: Key::Open }; KEY_CAPACITY]
+    }
+
+    pub fn no_commands() -> [Command; COMMAND_CAPACITY]
+        ensures { λ r. ⌜ r ≡ replicate commandCapacity (blank Stop) ⌝ }
+    {
+        [Command {
+            op: Op::Stop,
+            v: 0,
+            w: 0,
+            k: 0,
+            t: 0,
+            n: 0,
+        }; COMMAND_CAPACITY]
+    }
+
+    pub fn no_messages() -> [MessageLine; MESSAGE_CAPACITY]
+        ensures { λ r. ⌜ r ≡ replicate messageCapacity blankLine ⌝ }
+    {
+        let slots = MessageLine::no_entries();
+        [MessageLine { slots }; MESSAGE_CAPACITY]
+    }
+
+    // The job whose counts are all 0.
+    pub fn nothing() -> StoredJob
+        ensures { λ r. ⌜ r ≡ nothingStored ⌝ }
+    {
+        let secrets = StoredJob::open_keys();
+        let commands = StoredJob::no_commands();
+        let messages = StoredJob::no_messages();
+        StoredJob {
+            keys: 0,
+            secrets,
+            command_count: 0,
+            commands,
+            message_count: 0,
+            messages,
+            turn_count: 0,
+            turns: [0u8; LETTER_CAPACITY],
+        }
+    }
 }

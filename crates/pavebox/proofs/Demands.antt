@@ -1,38 +1,30 @@
 -- Demands 1, 2 and 3, from the entry's contract and the theorems about the model.
-use Prim.Native.Nat.{ℕ, _+_, _-_, _≤_}
+use Prim.Native.Nat.{ℕ, _-_, _≤_}
 use mathlib.Core.Path.{_≡_, refl, sym, ap, _∙_}
-use mathlib.Core.List.{List, [], _∷_}
+use mathlib.Core.List.{List, []}
 use native.Mathlib.Omega.{arith}
 use lib.ListN.{length, getD, length-append, length-drop}
-use Rattle.model.specs.Answer.{After, Left, numbersOf, allLe32, answeredBy, leftBy, runSheet, entry}
+use Rattle.model.specs.Answer.{After, Left, numbersOf, allLe32, answeredBy, leftBy, runSheet, runEntry, le32}
 use Rattle.model.specs.Job.{Job}
 use Rattle.model.specs.Output.{bytesOf, memoryAfter}
-use Rattle.model.specs.Reading.{Reading, accepted, refused, readSheet}
-use Rattle.model.specs.Run.{lineLength, run, runJob}
+use Rattle.model.specs.Sheet as Sheet
+use Rattle.model.specs.Sheet.{Reading, accepted, readSheet}
+use Rattle.model.specs.Run.{runJob}
 use Rattle.model.specs.Secrecy.{Indistinguishable}
-use Rattle.model.specs.declared.Entry.{Entry}
-use Rattle.model.specs.declared.Key.{Key}
 use Rattle.model.specs.declared.Level.the-variants.{High}
-use Rattle.model.proofs.Bytes.{bytes-length}
-use Rattle.model.proofs.Counting.{counts-of}
-use Rattle.model.proofs.Lockstep.{RestLike, run-alike, initial-alike, low≢high}
+use Rattle.model.specs.Witness.{sheet2, sheet3, job2, job3, lent}
+use Rattle.model.proofs.Counted.{counts-of}
+use Rattle.model.proofs.Examples.{opened}
 use Rattle.model.proofs.Secrecy.{secrecy}
-use Rattle.pavebox.proofs.Laws.{accepted-left, refused-left, entry-sized}
-use Rattle.pavebox.specs.Demands.{Call, Demand2, Demand1Holds, Demand2Holds, Demand3Holds}
+use Rattle.model.proofs.Witness.{telling as witness}
+use Rattle.whole_sheet.proofs.Laws.{accepted-left, refused-left}
+use Rattle.pavebox.proofs.Laws.{entry-sized}
+use Rattle.pavebox.specs.Demands.{Called, Demand2, Demand1Holds, Demand2Holds, Demand3Holds, answerLent, CalledOn, Telling}
 
 -- ---- What a run sends fits the memory that is lent to it
 
--- two lists of lines that are one list are alike
-rest-same : (ks : List Key) (ms : List (List Entry)) → RestLike High ks ms ms
-rest-same ks [] = tt
-rest-same ks (m ∷ ms) = (λ k isKey own. refl, rest-same ks ms)
-
 sent-length : (j : Job) (room : ℕ) → length (bytesOf (runJob j room .lines)) ≤ room
-unfolding runJob lineLength
-sent-length j room =
-    let same = run-alike High low≢high (j .keys) (j .commands) room (j .turns) _ _ (initial-alike High low≢high (j .keys) (j .messages) (j .messages) (rest-same (j .keys) (j .messages))) in
-    let counted = counts-of j room in
-    omega (arith, bytes-length High (same .lines) .0, counted .bytes, counted .room)
+sent-length j room = let c = counts-of j room in omega (arith, c .sent, c .room)
 
 memory-size : (j : Job) (m : List ℕ) → length (memoryAfter m (runJob j (length m) .lines)) ≡ length m
 unfolding memoryAfter
@@ -42,8 +34,8 @@ memory-size j m =
 
 -- ---- A call, by the definition of the entry
 
-module _ {s o a : List ℕ} {r : ℕ} {o′ a′ : List ℕ} (c : Call s o a r o′ a′) where
-  sized : entry s o a ≡ answeredBy (runSheet s o)
+module _ {s o a : List ℕ} {r : ℕ} {o′ a′ : List ℕ} (c : Called s o a r o′ a′) where
+  sized : runEntry s o a ≡ answeredBy (runSheet s o)
   sized = entry-sized s o a (c .sized)
 
   second : Demand2 s o a r o′ a′
@@ -57,7 +49,7 @@ module _ {s o a : List ℕ} {r : ℕ} {o′ a′ : List ℕ} (c : Call s o a r o
 -- either way the memory keeps its length
 left-size : (s o : List ℕ) (x : Reading) → readSheet s ≡ x → length (runSheet s o .memory) ≡ length o
 left-size s o (accepted j) e = ap (λ (x : Left). length (x .memory)) (accepted-left s o j e) ∙ memory-size j o
-left-size s o (refused n l) e = ap (λ (x : Left). length (x .memory)) (refused-left s o n l e)
+left-size s o (Sheet.refused n l) e = ap (λ (x : Left). length (x .memory)) (refused-left s o n l e)
 
 pub demand-1 : Demand1Holds
 unfolding memoryAfter numbersOf
@@ -89,4 +81,23 @@ demand-3 s t j k o a₁ a₂ r₁ r₂ o₁ o₂ b₁ b₂ es et h c₁ c₂ =
       answers = d₁ .numbers ∙ ap (λ (z : Left). allLe32 (numbersOf (z .answer))) x ∙ ap allLe32 (i .numbers) ∙ sym (d₂ .numbers ∙ ap (λ (z : Left). allLe32 (numbersOf (z .answer))) y);
       size = ap length (d₁ .memory ∙ ap (λ (z : Left). z .memory) x) ∙ i .size ∙ sym (ap length (d₂ .memory ∙ ap (λ (z : Left). z .memory) y));
       byte = λ p clear. ap (λ (m : List ℕ). getD m p 0) (d₁ .memory ∙ ap (λ (z : Left). z .memory) x) ∙ i .byte p clear ∙ sym (ap (λ (m : List ℕ). getD m p 0) (d₂ .memory ∙ ap (λ (z : Left). z .memory) y));
+    }
+
+-- ---- The demands speak of something
+
+on : (s : List ℕ) → CalledOn s
+on s = record { sized = refl; met = record { returns = refl; outputs = refl; answers = refl } }
+
+pub telling : Telling
+unfolding opened runEntry le32 allLe32
+telling =
+    record {
+      second = on sheet2;
+      third = on sheet3;
+      empty = on [];
+      holds = demand-3 sheet2 sheet3 job2 job3 lent answerLent answerLent _ _ _ _ _ _ (witness .accepts2) (witness .accepts3) (witness .alike) (on sheet2) (on sheet3);
+      differs = λ e. omega arith;
+      apart = λ d. omega (arith, d .byte 20 (λ h. omega (arith, witness .clear 20 h)));
+      ended = refl;
+      refuses = refl;
     }

@@ -1,20 +1,23 @@
 -- The three demands, of what the C entry returns and leaves; a call is stated by the contract that the entry is proved to meet.
 use Prim.Native.Nat.{ℕ, _+_}
 use mathlib.Core.Path.{_≡_}
-use mathlib.Core.List.{List, _++_}
-use lib.ListN.{length, getD, drop}
-use Rattle.model.specs.Answer.{numbersOf, allLe32, answerBytes, runSheet}
+use mathlib.Core.Logic.{_≢_}
+use mathlib.Core.List.{List, [], _++_}
+use lib.ListN.{length, getD, drop, replicate}
+use Rattle.model.specs.Answer.{After, numbersOf, allLe32, answerBytes, runSheet, runEntry}
 use Rattle.model.specs.Job.{Job}
 use Rattle.model.specs.Output.{bytesOf}
-use Rattle.model.specs.Reading.{accepted, refused, readSheet}
+use Rattle.model.specs.Sheet as Sheet
+use Rattle.model.specs.Sheet.{accepted, readSheet}
 use Rattle.model.specs.Run.{runJob}
 use Rattle.model.specs.Secrecy.{Alike, Hidden}
+use Rattle.model.specs.Witness.{sheet2, sheet3, otherSheet, job2, job3, lent}
 use Rattle.model.specs.declared.Answer.the-variants.{Refused}
 use Rattle.model.specs.declared.Level.the-variants.{High}
 use Rattle.pavebox.specs.Entry.{Answered}
 
 -- A call with an answer memory of 24 bytes
-pub record Call (sheet output answer : List ℕ) (returned : ℕ) (output′ answer′ : List ℕ) : Type 0 where
+pub record Called (sheet output answer : List ℕ) (returned : ℕ) (output′ answer′ : List ℕ) : Type 0 where
   pub sized : length answer ≡ answerBytes
   pub met : Answered sheet output answer returned output′ answer′
 
@@ -23,7 +26,7 @@ pub record Call (sheet output answer : List ℕ) (returned : ℕ) (output′ ans
 -- `requires`.)
 pub record Demand1 (sheet output answer : List ℕ) (returned : ℕ) (output′ answer′ : List ℕ) : Type 0 where
   pub accepts : (j : Job) → readSheet sheet ≡ accepted j → output′ ≡ bytesOf (runJob j (length output) .lines) ++ drop (length (bytesOf (runJob j (length output) .lines))) output
-  pub refuses : (n l : ℕ) → readSheet sheet ≡ refused n l → (output′ ≡ output) × (returned ≡ n) × (answer′ ≡ allLe32 (numbersOf (Refused n l)))
+  pub refuses : (n l : ℕ) → readSheet sheet ≡ Sheet.refused n l → (output′ ≡ output) × (returned ≡ n) × (answer′ ≡ allLe32 (numbersOf (Refused n l)))
   pub size : length output′ ≡ length output
 
 -- Demand 2. Every answer, sent line and count equals what the paired model gives for that sheet.
@@ -41,14 +44,43 @@ pub record Demand3 (s t : List ℕ) (a b : Job) (output : List ℕ) (returned₁
   pub byte : (p : ℕ) → ¬ Hidden High (a .keys) (runJob a (length output) .counts .bytes) p → getD output₁ p 0 ≡ getD output₂ p 0
 
 abbrev pub Demand1Holds : Type 0
-Demand1Holds = (s o a : List ℕ) (r : ℕ) (o′ a′ : List ℕ) → Call s o a r o′ a′ → Demand1 s o a r o′ a′
+Demand1Holds = (s o a : List ℕ) (r : ℕ) (o′ a′ : List ℕ) → Called s o a r o′ a′ → Demand1 s o a r o′ a′
 
 abbrev pub Demand2Holds : Type 0
-Demand2Holds = (s o a : List ℕ) (r : ℕ) (o′ a′ : List ℕ) → Call s o a r o′ a′ → Demand2 s o a r o′ a′
+Demand2Holds = (s o a : List ℕ) (r : ℕ) (o′ a′ : List ℕ) → Called s o a r o′ a′ → Demand2 s o a r o′ a′
 
 abbrev pub Demand3Holds : Type 0
 Demand3Holds =
     (s t : List ℕ) (j k : Job) (o a₁ a₂ : List ℕ) (r₁ r₂ : ℕ) (o₁ o₂ b₁ b₂ : List ℕ)
     → readSheet s ≡ accepted j → readSheet t ≡ accepted k → Alike High j k
-    → Call s o a₁ r₁ o₁ b₁ → Call t o a₂ r₂ o₂ b₂
+    → Called s o a₁ r₁ o₁ b₁ → Called t o a₂ r₂ o₂ b₂
     → Demand3 s t j k o r₁ r₂ o₁ o₂ b₁ b₂
+
+-- ---- The demands speak of something
+
+-- an answer memory of 24 bytes, and what the entry returns and leaves for a sheet on it and on some memory
+abbrev pub answerLent : List ℕ
+answerLent = replicate answerBytes 0
+
+abbrev pub after : List ℕ → After
+after s = runEntry s lent answerLent
+
+-- a call with the sheet s that returns and leaves just that
+abbrev pub CalledOn : List ℕ → Type 0
+CalledOn s = Called s lent answerLent (after s .returned) (after s .output) (after s .answer)
+
+-- demand 3 of calls with the sheets s and t, read as two jobs
+abbrev pub Demand3Of : List ℕ → List ℕ → Job → Job → Type 0
+Demand3Of s t a b = Demand3 s t a b lent (after s .returned) (after t .returned) (after s .output) (after t .output) (after s .answer) (after t .answer)
+
+-- Calls with P2, P3 and the empty sheet are calls as the demands have them. Demand 3 holds of P2 and P3, whose outputs differ all the same, at place
+-- 22 in the secret column; it would be false of a sheet with another open entry. An accepted sheet returns 0, the empty one 2.
+pub record Telling : Type 0 where
+  pub second : CalledOn sheet2
+  pub third : CalledOn sheet3
+  pub empty : CalledOn []
+  pub holds : Demand3Of sheet2 sheet3 job2 job3
+  pub differs : getD (after sheet2 .output) 22 0 ≢ getD (after sheet3 .output) 22 0
+  pub apart : ¬ Demand3Of sheet2 otherSheet job2 job2
+  pub ended : after sheet2 .returned ≡ 0
+  pub refuses : after [] .returned ≡ 2

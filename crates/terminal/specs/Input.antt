@@ -3,6 +3,6 @@ use Prim.Native.Nat.{ℕ, _≤_}
 use Rattle.terminal.specs.declared.Input.{Input}
 use Rattle.terminal.specs.declared.Input.the-variants.{Got, Failed}
 
-abbrev pub Within : Input → ℕ → Type 0
-Within (Got n) most = n ≤ most
-Within Failed most = Unit {0}
+abbrev pub WithinBuffer : Input → ℕ → Type 0
+WithinBuffer (Got n) most = n ≤ most
+WithinBuffer Failed most = Unit {0}

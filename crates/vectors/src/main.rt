@@ -6,7 +6,7 @@ fn run_each(sheets: &[u8], output: &mut [u8], few: &mut [u8]) {
     let mut a: usize = 0;
     while a < sheets.len() {
         let rest = &sheets[a..];
-        let e = text::find_byte(rest, 0);
+        let e = read_text::find_byte(rest, 0);
         if rest.len() <= e {
             return;
         }

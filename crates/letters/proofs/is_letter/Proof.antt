@@ -1,7 +1,0 @@
--- The two letters by their bytes.
-use Rattle.letters.proofs.Laws.{letter-low, letter-high}
-use Rattle.letters.proofs.is_letter.Statement.{statement}
-use Rattle.letters.proofs.is_letter.Tie as tie
-
-pub is-letter-spec : {M : Type 1} → statement M
-is-letter-spec = tie.close (tie.spec (λ c. letter-low _ (c .if1 .taken)) (λ c. letter-high _ (c .if1 .left)))

@@ -1,2 +1,0 @@
--- The laws of parts that the crates above cite.
-pub mod Laws

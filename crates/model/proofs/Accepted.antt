@@ -1,0 +1,449 @@
+-- The job of an accepted sheet is sound: each step of reading keeps what it read within its limit.
+use Prim.Native.Nat.{ℕ, zero, suc, pred, _+_, _-_, _<_, _≤_, zero-le, suc-le-suc}
+use mathlib.Core.Path.{_≡_, refl, sym, _∙_, ap, subst}
+use mathlib.Core.Bool.{Bool, true, false, cond}
+use mathlib.Core.List.{List, [], _∷_, _++_}
+use lib.Dec.{eqb, leb, ltb}
+use lib.IntN.{ℤ, pos, negsuc}
+use lib.ListN.{length, set, replicate, getD, length-set, length-replicate, length-append}
+use borrow.Author.Tests.{eq-eqb, leb-true, ltb-true, ltb-false}
+use native.Mathlib.Omega.{arith}
+use Rattle.model.specs.Limits.{mostBytes, mostKeys, mostCommands, mostMessages, mostLetters, variables, greatestNumber, leastNumber}
+use Rattle.model.specs.Parsed.{Parsed, got, refused, need, _>>=_, _>>_}
+use Rattle.model.specs.Text.{bytes, same, divide, split, lines, count, lineFeed, space, comma, minus, colon}
+use Rattle.model.specs.Number.{natural, within, upTo, fromOne, negative, positive, number}
+use Rattle.model.specs.Command.{Row, Limits, table, blank, operand, operands, rowOf, byRow, words, readCommand, limits}
+use Rattle.model.specs.Pair.{ByKey, everywhere, pair, part}
+use Rattle.model.specs.Head.{sheetLine, keysLine, secretLine, allOpen, readFirst, readKeys, readSecrets}
+use Rattle.model.specs.Messages.{parts, allAbsent, message, messageLine, readMessages}
+use Rattle.model.specs.Turns.{letter, letters, turnsLine, nothingAfter, readTurns}
+use Rattle.model.specs.Job.{Job}
+use Rattle.model.specs.Phase as Phase
+use Rattle.model.specs.Sheet as Sheet
+use Rattle.model.specs.Phase.{Phase, after, one, many, oneMore, some, numbered, onward, eachLine}
+use Rattle.model.specs.Sheet.{Reading, accepted, next, targets, readBody, readLines, forbiddenLine, closed, readSheet}
+use Rattle.model.specs.Program.{readCommands}
+use Rattle.model.specs.Accepted.{rowFor, ordinal, has, kept, Bare, InRange, KeyInRange, EntryInRange, Within, Every, Full, Sound, AcceptedSound, KeysRise}
+use Rattle.model.specs.declared.Entry.{Entry}
+use Rattle.model.specs.declared.Entry.the-variants.{Absent, Number}
+use Rattle.model.specs.declared.Key.{Key}
+use Rattle.model.specs.declared.Key.the-variants.{Open, Secret}
+use Rattle.model.specs.declared.Command.{Command}
+use Rattle.model.specs.declared.Op.{Op}
+use Rattle.model.specs.declared.Operand.{Operand}
+use Rattle.model.specs.declared.Operand.the-variants.{InV, InW, InK, InT, InN}
+use Rattle.model.specs.declared.Level.{Level}
+
+-- ---- Choices
+
+either : {A : Type 0} (P : A → Type 0) (b : Bool) (x y : A) → P x → P y → P (cond b x y)
+either P true x y h k = h
+either P false x y h k = k
+
+unless : {A : Type 0} (b : Bool) {x d : A} → (b ≡ false → x ≡ d) → cond b x d ≡ x
+unless true h = refl
+unless false h = sym (h refl)
+
+clash : {A : Type 0} {b : Bool} → b ≡ true → b ≡ false → A
+clash t f = absurd (let z : _≡_ {A = ℕ} 0 1 = cc in omega arith)
+
+-- ---- Facts of every element
+
+module _ {A : Type 0} (P : A → Type 0) where
+  pub every-at : (xs : List A) (i : ℕ) (d : A) → Every P xs → i < length xs → P (getD xs i d)
+  every-at [] i d h b = absurd (omega arith)
+  every-at (x ∷ xs) zero d h b = h .0
+  every-at (x ∷ xs) (suc i) d h b = every-at xs i d (h .1) (omega arith)
+
+  every-set : (xs : List A) (i : ℕ) (a : A) → Every P xs → P a → Every P (set xs i a)
+  every-set [] i a h p = tt
+  every-set (x ∷ xs) zero a h p = (p, h .1)
+  every-set (x ∷ xs) (suc i) a h p = (h .0, every-set xs i a (h .1) p)
+
+  every-replicate : (n : ℕ) (a : A) → P a → Every P (replicate n a)
+  every-replicate zero a p = tt
+  every-replicate (suc n) a p = (p, every-replicate n a p)
+
+  pub every-snoc : (xs : List A) (a : A) → Every P xs → P a → Every P (xs ++ (a ∷ []))
+  every-snoc [] a h p = (p, tt)
+  every-snoc (x ∷ xs) a h p = (h .0, every-snoc xs a (h .1) p)
+
+  every-both : (Q R : A → Type 0) → ((x : A) → P x → Q x → R x) → (xs : List A) → Every P xs → Every Q xs → Every R xs
+  every-both Q R f [] h k = tt
+  every-both Q R f (x ∷ xs) h k = (f x (h .0) (k .0), every-both Q R f xs (h .1) (k .1))
+
+-- ---- What holds of whatever is read
+
+-- a fact of the value that a piece of text gives, if it gives one
+abbrev GotOf : {A : Type 0} → (A → Type 0) → Parsed A → Type 0
+GotOf P (got a) = P a
+GotOf P (refused n) = Unit {0}
+
+abbrev Any : {A : Type 0} → A → Type 0
+Any a = Unit {0}
+
+any : {A : Type 0} (r : Parsed A) → GotOf Any r
+any (got a) = tt
+any (refused n) = tt
+
+module _ {A B : Type 0} (P : A → Type 0) (Q : B → Type 0) where
+  bind : (r : Parsed A) (f : A → Parsed B) → GotOf P r → ((a : A) → P a → GotOf Q (f a)) → GotOf Q (r >>= f)
+  bind (got a) f h g = g a h
+  bind (refused n) f h g = tt
+
+module _ {A : Type 0} (P : A → Type 0) where
+  guard : (b : Bool) (n : ℕ) (r : Parsed A) → (b ≡ true → GotOf P r) → GotOf P (need b n >> r)
+  guard true n r h = h refl
+  guard false n r h = tt
+
+  imply : (Q : A → Type 0) (r : Parsed A) → ((a : A) → P a → Q a) → GotOf P r → GotOf Q r
+  imply Q (got a) f h = f a h
+  imply Q (refused n) f h = tt
+
+-- ---- Numbers
+
+upTo-ok : (m : ℕ) (s : List ℕ) → GotOf (λ x. x ≤ m) (upTo m s)
+unfolding upTo within
+upTo-ok m s = bind Any (λ x. x ≤ m) (natural s) (within m) (any (natural s)) (λ n h. guard (λ x. x ≤ m) (leb n m) 4 (got n) (leb-true n m))
+
+abbrev Positive : ℕ → ℕ → Type 0
+Positive m n = (1 ≤ n) × (n ≤ m)
+
+fromOne-ok : (m : ℕ) (s : List ℕ) → GotOf (Positive m) (fromOne m s)
+unfolding fromOne
+fromOne-ok m s = bind (λ x. x ≤ m) (Positive m) (upTo m s) _ (upTo-ok m s) (λ n h. guard (Positive m) (leb 1 n) 4 (got n) (λ e. (leb-true 1 n e, h)))
+
+negative-range : (n : ℕ) → Positive leastNumber n → InRange (negsuc (pred n))
+negative-range zero h = absurd (omega (arith, h .0))
+negative-range (suc n) h = omega (arith, h .1)
+
+number-ok : (s : List ℕ) → GotOf InRange (number s)
+unfolding number negative positive
+number-ok [] = tt
+number-ok (b ∷ bs) =
+    either (GotOf InRange) (eqb b minus) _ _
+    (bind (Positive leastNumber) InRange (fromOne leastNumber bs) _ (fromOne-ok leastNumber bs) negative-range)
+    (bind (λ x. x ≤ greatestNumber) InRange (upTo greatestNumber (b ∷ bs)) _ (upTo-ok greatestNumber (b ∷ bs)) (λ n h. h))
+
+-- a number that is read lies within its limit
+pub up-to-bound : (m n : ℕ) (s : List ℕ) → upTo m s ≡ got n → n ≤ m
+up-to-bound m n s e = subst (GotOf (λ x. x ≤ m)) e (upTo-ok m s)
+
+pub from-one-bound : (m n : ℕ) (s : List ℕ) → fromOne m s ≡ got n → (1 ≤ n) × (n ≤ m)
+from-one-bound m n s e = subst (GotOf (Positive m)) e (fromOne-ok m s)
+
+-- ---- `key:value`
+
+abbrev Rising : ℕ → ℕ → ℕ × ℤ → Type 0
+Rising K next kv = (next ≤ kv .0) × (kv .0 < K) × InRange (kv .1)
+
+pair-ok : (K next : ℕ) (p : List ℕ) → 1 ≤ K → GotOf (Rising K next) (pair K next p)
+unfolding pair
+pair-ok K next p some =
+    bind Any (Rising K next) (divide colon 4 p) _ (any (divide colon 4 p)) (λ kv h.
+    bind (λ x. x ≤ K - 1) (Rising K next) (upTo (K - 1) (kv .0)) _ (upTo-ok (K - 1) (kv .0)) (λ k below.
+    guard (Rising K next) (leb next k) 5 _ (λ e.
+    bind InRange (Rising K next) (number (kv .1)) _ (number-ok (kv .1)) (λ v r. (leb-true next k e, omega arith, r)))))
+
+-- what stands at each of the keys
+abbrev Held : {A : Type 0} → (A → Type 0) → ℕ → ByKey A → Type 0
+Held P K e = (length (e .at) ≡ K) × Every P (e .at)
+
+module _ {A : Type 0} (P : A → Type 0) (K : ℕ) where
+  everywhere-ok : (a : A) → P a → Held P K (everywhere K a)
+  everywhere-ok a p = (length-replicate K a, every-replicate P K a p)
+
+  part-ok : (f : ℤ → A) → ((z : ℤ) → InRange z → P (f z)) → 1 ≤ K → (e : ByKey A) (p : List ℕ) → Held P K e → GotOf (Held P K) (part f K e p)
+  unfolding part
+  part-ok f range some e p h =
+      bind (Rising K (e .next)) (Held P K) (pair K (e .next) p) _ (pair-ok K (e .next) p some)
+      (λ kv r. (length-set (e .at) (kv .0) (f (kv .1)) ∙ h .0, every-set P (e .at) (kv .0) (f (kv .1)) (h .1) (range (kv .1) (r .2))))
+
+module _ (K : ℕ) (some : 1 ≤ K) where
+  secret-ok : (e : ByKey Key) (s : List ℕ) → Held KeyInRange K e → GotOf (Held KeyInRange K) (secretLine K e s)
+  unfolding secretLine
+  secret-ok e s h = part-ok KeyInRange K Secret (λ z r. r) some e s h
+
+  parts-ok : (e : ByKey Entry) (ps : List (List ℕ)) → Held EntryInRange K e → GotOf (Held EntryInRange K) (parts K e ps)
+  unfolding parts
+  parts-ok e [] h = h
+  parts-ok e (p ∷ ps) h =
+      bind (Held EntryInRange K) (Held EntryInRange K) (part Number K e p) _ (part-ok EntryInRange K Number (λ z r. r) some e p h) (λ e′ h′. parts-ok e′ ps h′)
+
+  message-ok : (s : List ℕ) → GotOf (Held EntryInRange K) (message K s)
+  unfolding message
+  message-ok [] = everywhere-ok EntryInRange K Absent tt
+  message-ok (b ∷ bs) = parts-ok (allAbsent K) (split comma (b ∷ bs)) (everywhere-ok EntryInRange K Absent tt)
+
+  message-line-ok : (s : List ℕ) → GotOf (Full K) (messageLine K s)
+  unfolding messageLine
+  message-line-ok s = bind (Held EntryInRange K) (Full K) (message K s) _ (message-ok s) (λ e h. h)
+
+-- ---- Commands
+
+-- what is asked of a command that was read
+abbrev Plain : Limits → Command → Type 0
+Plain l c = Within (l .keys) (l .target) c × Bare c
+
+-- What holds of a command whose parts os are being read: each operand is within its limit, and 0 if it is none of them
+record Fine (l : Limits) (o : Op) (os : List Operand) (c : Command) : Type 0 where
+  op : c .op ≡ o
+  v : (c .v < variables) × (has os InV ≡ false → c .v ≡ 0)
+  w : (c .w < variables) × (has os InW ≡ false → c .w ≡ 0)
+  k : (c .k < l .keys) × (has os InK ≡ false → c .k ≡ 0)
+  t : (c .t ≤ l .target) × (has os InT ≡ false → c .t ≡ 0)
+  n : InRange (c .n) × (has os InN ≡ false → c .n ≡ pos 0)
+
+has-first : (o : Operand) (os : List Operand) → has (o ∷ os) o ≡ true
+unfolding has
+has-first o os = ap (λ (b : Bool). cond b true (has os o)) (eq-eqb (ordinal o) (ordinal o) refl)
+
+has-later : (p o : Operand) (os : List Operand) → has os o ≡ true → has (p ∷ os) o ≡ true
+unfolding has
+has-later p o os h = either (λ (b : Bool). b ≡ true) (eqb (ordinal p) (ordinal o)) true (has os o) refl h
+
+module _ (l : Limits) (some : 1 ≤ l .keys) (op : Op) (os : List Operand) where
+  blank-ok : Fine l op os (blank op)
+  blank-ok =
+      record {
+        op = refl;
+        v = (omega arith, λ e. refl);
+        w = (omega arith, λ e. refl);
+        k = (omega arith, λ e. refl);
+        t = (omega arith, λ e. refl);
+        n = (omega arith, λ e. refl);
+      }
+
+  operand-ok : (o : Operand) (p : List ℕ) (c : Command) → has os o ≡ true → Fine l op os c → GotOf (Fine l op os) (operand l o p c)
+  unfolding operand
+  operand-ok InV p c i h =
+      bind _ _ (upTo (variables - 1) p) _ (upTo-ok (variables - 1) p)
+      (λ x b. record { op = h .op; v = (omega arith, clash i); w = h .w; k = h .k; t = h .t; n = h .n })
+  operand-ok InW p c i h =
+      bind _ _ (upTo (variables - 1) p) _ (upTo-ok (variables - 1) p)
+      (λ x b. record { op = h .op; v = h .v; w = (omega arith, clash i); k = h .k; t = h .t; n = h .n })
+  operand-ok InK p c i h =
+      bind _ _ (upTo (l .keys - 1) p) _ (upTo-ok (l .keys - 1) p)
+      (λ x b. record { op = h .op; v = h .v; w = h .w; k = (omega arith, clash i); t = h .t; n = h .n })
+  operand-ok InT p c i h =
+      bind _ _ (upTo (l .target) p) _ (upTo-ok (l .target) p)
+      (λ x b. record { op = h .op; v = h .v; w = h .w; k = h .k; t = (b, clash i); n = h .n })
+  operand-ok InN p c i h =
+      bind _ _ (number p) _ (number-ok p)
+      (λ x b. record { op = h .op; v = h .v; w = h .w; k = h .k; t = h .t; n = (b, clash i) })
+
+  operands-ok : (rest : List Operand) (ps : List (List ℕ)) (c : Command) → ((o : Operand) → has rest o ≡ true → has os o ≡ true) → Fine l op os c → GotOf (Fine l op os) (operands l rest ps c)
+  unfolding operands
+  operands-ok (o ∷ rest) (p ∷ ps) c i h =
+      bind (Fine l op os) (Fine l op os) (operand l o p c) _ (operand-ok o p c (i o (has-first o rest)) h)
+      (λ d g. operands-ok rest ps d (λ x e. i x (has-later o x rest e)) g)
+  operands-ok (o ∷ rest) [] c i h = h
+  operands-ok [] ps c i h = h
+
+-- every row of the table is that of its word
+abbrev Own : Row → Type 0
+Own r = rowFor (r .op) ≡ r
+
+own-rows : Every Own table
+unfolding table rowFor
+own-rows = (refl, (refl, (refl, (refl, (refl, (refl, (refl, (refl, (refl, (refl, (refl, (refl, (refl, (refl, (refl, tt)))))))))))))))
+
+row-ok : (P : Row → Type 0) (rs : List Row) (w : List ℕ) → Every P rs → GotOf P (rowOf rs w)
+unfolding rowOf
+row-ok P [] w h = tt
+row-ok P (r ∷ rs) w h = either (GotOf P) (same w (r .word)) (got r) (rowOf rs w) (h .0) (row-ok P rs w (h .1))
+
+-- such a command is what these parts leave of it
+fine-kept : {l : Limits} {o : Op} {os : List Operand} {c : Command} → Fine l o os c → kept os c ≡ c
+unfolding kept
+fine-kept {c = c} h i =
+    record { op = c .op; v = unless _ (h .v .1) i; w = unless _ (h .w .1) i; k = unless _ (h .k .1) i; t = unless _ (h .t .1) i; n = unless _ (h .n .1) i }
+
+plain : (l : Limits) (r : Row) (c : Command) → Own r → Fine l (r .op) (r .parts) c → Plain l c
+plain l r c own h =
+    (record { v = h .v .0; w = h .w .0; k = h .k .0; t = h .t .0; n = h .n .0 }, ap (λ (x : Row). kept (x .parts) c) (ap rowFor (h .op) ∙ own) ∙ fine-kept h)
+
+command-ok : (l : Limits) → 1 ≤ l .keys → (s : List ℕ) → GotOf (Plain l) (readCommand l s)
+unfolding readCommand words byRow
+command-ok l some s = go (split space s)
+  where
+    go : (ps : List (List ℕ)) → GotOf (Plain l) (words l ps)
+    go [] = tt
+    go (w ∷ ps) =
+        bind Own (Plain l) (rowOf table w) _ (row-ok Own table w own-rows) (λ r own.
+        let fine = operands-ok l some (r .op) (r .parts) (r .parts) ps (blank (r .op)) (λ o i. i) (blank-ok l some (r .op) (r .parts)) in
+        let read = operands l (r .parts) ps (blank (r .op)) in
+        either (GotOf (Plain l)) (eqb (length (r .parts)) (length ps)) read (refused 6) (imply (Fine l (r .op) (r .parts)) (Plain l) read (λ c h. plain l r c own h) fine) tt)
+
+-- ---- Letters
+
+letters-ok : (s : List ℕ) → GotOf (λ (ls : List Level). length ls ≡ length s) (letters s)
+unfolding letters
+letters-ok [] = refl
+letters-ok (b ∷ bs) =
+    bind Any (λ (ls : List Level). length ls ≡ suc (length bs)) (letter b) _ (any (letter b)) (λ l h.
+    bind (λ (ls : List Level). length ls ≡ length bs) (λ (ls : List Level). length ls ≡ suc (length bs)) (letters bs) _ (letters-ok bs) (λ ls e. ap suc e))
+
+abbrev Lettered : List Level → Type 0
+Lettered ls = (1 ≤ length ls) × (length ls ≤ mostLetters)
+
+turns-ok : (s : List ℕ) → GotOf Lettered (turnsLine s)
+unfolding turnsLine
+turns-ok s =
+    guard Lettered (leb (length s) mostLetters) 8 _ (λ e.
+    guard Lettered (leb 1 (length s)) 9 _ (λ f.
+    imply (λ (ls : List Level). length ls ≡ length s) Lettered (letters s)
+    (λ ls n. (omega (arith, leb-true 1 (length s) f), omega (arith, leb-true (length s) mostLetters e))) (letters-ok s)))
+
+-- ---- Phases
+
+-- a fact of what a phase reads, if it does not refuse
+abbrev ReadOf : {A : Type 0} → (A → Type 0) → Phase A → Type 0
+ReadOf P (Phase.got a n ls) = P a
+ReadOf P (Phase.refused r n) = Unit {0}
+
+module _ {A : Type 0} (P : A → Type 0) where
+  one-ok : (w : List ℕ) (f : List ℕ → Parsed A) (n : ℕ) (ls : List (List ℕ)) → ((s : List ℕ) → GotOf P (f s)) → ReadOf P (one w f n ls)
+  unfolding one
+  one-ok w f n [] h = tt
+  one-ok w f n (l ∷ ls) h = go (after w l >>= f) (bind Any P (after w l) f (any (after w l)) (λ s t. h s))
+    where
+      go : (r : Parsed A) → GotOf P r → ReadOf P (numbered n ls r)
+      go (got a) p = p
+      go (refused r) p = tt
+
+  many-ok : (w : List ℕ) (f : A → List ℕ → Parsed A) (n : ℕ) (a : A) (ls : List (List ℕ)) → ((b : A) (s : List ℕ) → P b → GotOf P (f b s)) → P a → ReadOf P (many w f n a ls)
+  unfolding many
+  many-ok w f n a [] h p = p
+  many-ok w f n a (l ∷ ls) h p = go (after w l) (λ b q. many-ok w f (n + 1) b ls h q)
+    where
+      further : (r : Parsed A) → ((b : A) → P b → ReadOf P (many w f (n + 1) b ls)) → GotOf P r → ReadOf P (onward n r (λ b. many w f (n + 1) b ls))
+      further (got b) rest q = rest b q
+      further (refused r) rest q = tt
+
+      go : (r : Parsed (List ℕ)) → ((b : A) → P b → ReadOf P (many w f (n + 1) b ls)) → ReadOf P (eachLine n a (l ∷ ls) r (f a) (λ b. many w f (n + 1) b ls))
+      go (got v) rest = further (f a v) rest (h a v p)
+      go (refused r) rest = p
+
+  -- at most so many, each as P says
+  abbrev AtMost : ℕ → List A → Type 0
+  AtMost limit xs = (length xs ≤ limit) × Every P xs
+
+  oneMore-ok : (limit : ℕ) (f : List ℕ → Parsed A) (xs : List A) (s : List ℕ) → GotOf P (f s) → AtMost limit xs → GotOf (AtMost limit) (oneMore limit f xs s)
+  unfolding oneMore
+  oneMore-ok limit f xs s h p =
+      guard (AtMost limit) (ltb (length xs) limit) 8 _ (λ e.
+      bind P (AtMost limit) (f s) _ h (λ a q. (let b = ltb-true (length xs) limit e in omega (arith, length-append xs (a ∷ [])), every-snoc P xs a (p .1) q)))
+
+  some-ok : (limit : ℕ) (x : Phase (List A)) → ReadOf (AtMost limit) x → ReadOf (λ xs. (1 ≤ length xs) × AtMost limit xs) (some x)
+  some-ok limit (Phase.got [] n ls) h = tt
+  some-ok limit (Phase.got (a ∷ xs) n ls) h = (suc-le-suc zero-le, h)
+  some-ok limit (Phase.refused r n) h = tt
+
+-- ---- The sheet
+
+abbrev AcceptedOf : (Job → Type 0) → Reading → Type 0
+AcceptedOf Q (accepted j) = Q j
+AcceptedOf Q (Sheet.refused n l) = Unit {0}
+
+module _ (Q : Job → Type 0) where
+  next-ok : {A : Type 0} (P : A → Type 0) (x : Phase A) (f : A → ℕ → List (List ℕ) → Reading) → ReadOf P x → ((a : A) (n : ℕ) (ls : List (List ℕ)) → P a → AcceptedOf Q (f a n ls)) → AcceptedOf Q (next x f)
+  next-ok P (Phase.got a n ls) f h g = g a n ls h
+  next-ok P (Phase.refused r n) f h g = tt
+
+  targets-ok : (n m : ℕ) (cs : List Command) (j : Job) → (Every (λ (c : Command). c .t ≤ m) cs → Q j) → AcceptedOf Q (targets n m cs j)
+  unfolding targets
+  targets-ok n m [] j h = h tt
+  targets-ok n m (c ∷ cs) j h = go (ltb m (c .t)) refl (λ f. targets-ok (n + 1) m cs j f)
+    where
+      go : (b : Bool) → ltb m (c .t) ≡ b → ((Every (λ (d : Command). d .t ≤ m) cs → Q j) → AcceptedOf Q (targets (n + 1) m cs j)) → AcceptedOf Q (cond b (Sheet.refused 7 n) (targets (n + 1) m cs j))
+      go true e rest = tt
+      go false e rest = rest (λ far. h (ltb-false m (c .t) e, far))
+
+-- every command's target is within the count, once that is tested
+tightened : (K m : ℕ) (c : Command) → Plain (limits K mostCommands) c → c .t ≤ m → Within K m c
+tightened K m c h b = let w = h .0 in record { v = w .v; w = w .w; k = w .k; t = b; n = w .n }
+
+abbrev Coming : ℕ → List Command → Type 0
+Coming K cs = (1 ≤ length cs) × AtMost (Plain (limits K mostCommands)) mostCommands cs
+
+-- what the phases read, put together
+finished : (K : ℕ) (ks : ByKey Key) (cs : List Command) (ms : List (List Entry)) (ts : List Level)
+    → Positive mostKeys K → Held KeyInRange K ks → Coming K cs → AtMost (Full K) mostMessages ms → Lettered ts
+    → Every (λ (c : Command). c .t ≤ length cs) cs
+    → Sound (record { keys = ks .at; commands = cs; messages = ms; turns = ts })
+finished K ks cs ms ts hk held hc hm ht far =
+    let e : K ≡ length (ks .at) = sym (held .0) in
+    record {
+      someKeys = omega (arith, hk .0, held .0);
+      mostKeys = omega (arith, hk .1, held .0);
+      keys = held .1;
+      someCommands = hc .0;
+      mostCommands = hc .1 .0;
+      commands =
+          subst (λ (n : ℕ). Every (Within n (length cs)) cs) e
+          (every-both (Plain (limits K mostCommands)) (λ (c : Command). c .t ≤ length cs) (Within K (length cs)) (λ c h b. tightened K (length cs) c h b) cs (hc .1 .1) far);
+      bare = every-both (Plain (limits K mostCommands)) (λ (c : Command). c .t ≤ length cs) Bare (λ c h b. h .1) cs (hc .1 .1) far;
+      mostMessages = hm .0;
+      messages = subst (λ (n : ℕ). Every (Full n) ms) e (hm .1);
+      someTurns = ht .0;
+      mostTurns = ht .1;
+    }
+
+-- ---- The phases
+
+module _ (K : ℕ) (some : 1 ≤ K) (n : ℕ) (ls : List (List ℕ)) where
+  secrets-ok : ReadOf (Held KeyInRange K) (readSecrets K n ls)
+  unfolding readSecrets
+  secrets-ok = many-ok (Held KeyInRange K) (bytes "secret") (secretLine K) n (allOpen K) ls (λ e s h. secret-ok K some e s h) (everywhere-ok KeyInRange K Open tt)
+
+  commands-ok : ReadOf (Coming K) (readCommands K n ls)
+  unfolding readCommands
+  commands-ok =
+      some-ok (Plain (limits K mostCommands)) mostCommands (many (bytes "do") (oneMore mostCommands (readCommand (limits K mostCommands))) n [] ls)
+      (many-ok (AtMost (Plain (limits K mostCommands)) mostCommands) (bytes "do") (oneMore mostCommands (readCommand (limits K mostCommands))) n [] ls
+      (λ cs s h. oneMore-ok (Plain (limits K mostCommands)) mostCommands (readCommand (limits K mostCommands)) cs s (command-ok (limits K mostCommands) some s) h) (zero-le, tt))
+
+  messages-ok : ReadOf (AtMost (Full K) mostMessages) (readMessages K n ls)
+  unfolding readMessages
+  messages-ok =
+      many-ok (AtMost (Full K) mostMessages) (bytes "msg") (oneMore mostMessages (messageLine K)) n [] ls
+      (λ ms s h. oneMore-ok (Full K) mostMessages (messageLine K) ms s (message-line-ok K some s) h) (zero-le, tt)
+
+nothing-ok : {A : Type 0} (P : A → Type 0) (x : Phase A) → ReadOf P x → ReadOf P (nothingAfter x)
+nothing-ok P (Phase.got a n []) h = h
+nothing-ok P (Phase.got a n (l ∷ ls)) h = tt
+nothing-ok P (Phase.refused r n) h = tt
+
+letters-read-ok : (n : ℕ) (ls : List (List ℕ)) → ReadOf Lettered (readTurns n ls)
+unfolding readTurns
+letters-read-ok n ls = nothing-ok Lettered (one (bytes "turns") turnsLine n ls) (one-ok Lettered (bytes "turns") turnsLine n ls turns-ok)
+
+body-ok : (K : ℕ) (ks : ByKey Key) (top : ℕ) (ls : List (List ℕ)) → Positive mostKeys K → Held KeyInRange K ks → AcceptedOf Sound (readBody (ks .at) K top ls)
+unfolding readBody
+body-ok K ks top ls hk held =
+    next-ok Sound (Coming K) (readCommands K top ls) _ (commands-ok K (hk .0) top ls) (λ cs n₁ ls₁ hc.
+    next-ok Sound (AtMost (Full K) mostMessages) (readMessages K n₁ ls₁) _ (messages-ok K (hk .0) n₁ ls₁) (λ ms n₂ ls₂ hm.
+    next-ok Sound Lettered (readTurns n₂ ls₂) _ (letters-read-ok n₂ ls₂) (λ ts n₃ ls₃ ht.
+    targets-ok Sound top (length cs) cs _ (finished K ks cs ms ts hk held hc hm ht))))
+
+lines-ok : (ls : List (List ℕ)) → AcceptedOf Sound (readLines ls)
+unfolding readLines readFirst readKeys keysLine
+lines-ok ls =
+    next-ok Sound Any (readFirst 1 ls) _ (one-ok Any (bytes "sheet") sheetLine 1 ls (λ s. any (sheetLine s))) (λ a n₁ ls₁ h.
+    next-ok Sound (Positive mostKeys) (readKeys n₁ ls₁) _ (one-ok (Positive mostKeys) (bytes "keys") keysLine n₁ ls₁ (λ s. fromOne-ok mostKeys s)) (λ K n₂ ls₂ hk.
+    next-ok Sound (Held KeyInRange K) (readSecrets K n₂ ls₂) _ (secrets-ok K (hk .0) n₂ ls₂) (λ ks top ls₃ held.
+    body-ok K ks top ls₃ hk held)))
+
+sheet-ok : (s : List ℕ) → AcceptedOf Sound (readSheet s)
+unfolding readSheet
+sheet-ok s =
+    either (AcceptedOf Sound) (ltb mostBytes (length s)) (Sheet.refused 1 0) _ tt
+    (either (AcceptedOf Sound) (leb 1 (forbiddenLine 1 s)) (Sheet.refused 2 (forbiddenLine 1 s)) _ tt
+    (either (AcceptedOf Sound) (closed s) (readLines (lines s)) (Sheet.refused 2 (count lineFeed s + 1)) (lines-ok (lines s)) tt))
+
+pub accepted-sound : AcceptedSound
+accepted-sound s j e = subst (AcceptedOf Sound) e (sheet-ok s)
+
+pub keys-rise : KeysRise
+keys-rise K next p kv some e = subst (GotOf (Rising K next)) e (pair-ok K next p some)

@@ -1,0 +1,26 @@
+-- What the counts of a run are.
+use Prim.Native.Nat.{ℕ, suc, _+_, _*_, _≤_}
+use mathlib.Core.List.{List, [], _∷_}
+use mathlib.Core.Path.{_≡_}
+use lib.ListN.{length, take}
+use Rattle.model.specs.Job.{Job}
+use Rattle.model.specs.Output.{bytesOf}
+use Rattle.model.specs.Run.{runJob}
+use Rattle.model.specs.declared.Level.{Level}
+use Rattle.model.specs.declared.Level.the-variants.{Low, High}
+
+-- the L letters of a list
+unfoldable pub lows : List Level → ℕ
+lows [] = 0
+lows (Low ∷ ls) = suc (lows ls)
+lows (High ∷ ls) = lows ls
+
+-- "Positions used .. is never above the count of letters, and low steps equals the L letters among the letters used." "Bytes written is 10 + 12 × K
+-- for each line sent", as many as these lines have, and never above the bytes lent. "Messages taken counts lines".
+pub record Counted (j : Job) (lent : ℕ) : Type 0 where
+  pub positions : runJob j lent .counts .positions ≤ length (j .turns)
+  pub steps : runJob j lent .counts .steps ≡ lows (take (runJob j lent .counts .positions) (j .turns))
+  pub bytes : runJob j lent .counts .bytes ≡ (10 + 12 * length (j .keys)) * length (runJob j lent .lines)
+  pub sent : length (bytesOf (runJob j lent .lines)) ≡ runJob j lent .counts .bytes
+  pub room : runJob j lent .counts .bytes ≤ lent
+  pub taken : runJob j lent .counts .taken ≤ length (j .messages)

@@ -1,0 +1,35 @@
+-- The first lines of a sheet: `sheet`, `keys` and `secret`.
+use mathlib.Core.List.{List}
+use Prim.Native.Nat.{ℕ}
+use Rattle.model.specs.Parsed.{Parsed}
+use Rattle.model.specs.Number.{fromOne}
+use Rattle.model.specs.Text.{bytes}
+use Rattle.model.specs.Phase.{Phase, one, many}
+use Rattle.model.specs.Limits.{mostKeys}
+use Rattle.model.specs.Pair.{ByKey, everywhere, part}
+use Rattle.model.specs.declared.Key.{Key}
+use Rattle.model.specs.declared.Key.the-variants.{Open, Secret}
+
+-- "`sheet=1`, once." Refusal 4 names "the 1 of `sheet`".
+unfoldable pub sheetLine : List ℕ → Parsed ℕ
+sheetLine s = fromOne 1 s
+
+unfoldable pub readFirst : ℕ → List (List ℕ) → Phase ℕ
+readFirst n ls = one (bytes "sheet") sheetLine n ls
+
+-- "`keys=K`, once, K from 1 to 8."
+unfoldable pub keysLine : List ℕ → Parsed ℕ
+keysLine s = fromOne mostKeys s
+
+unfoldable pub readKeys : ℕ → List (List ℕ) → Phase ℕ
+readKeys n ls = one (bytes "keys") keysLine n ls
+
+-- "`secret=key:dummy`, none or more, keys rising. Every other key is open."
+abbrev pub allOpen : ℕ → ByKey Key
+allOpen K = everywhere K Open
+
+unfoldable pub secretLine : ℕ → ByKey Key → List ℕ → Parsed (ByKey Key)
+secretLine K e s = part Secret K e s
+
+unfoldable pub readSecrets : ℕ → ℕ → List (List ℕ) → Phase (ByKey Key)
+readSecrets K n ls = many (bytes "secret") (secretLine K) n (allOpen K) ls

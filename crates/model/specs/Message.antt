@@ -1,0 +1,58 @@
+-- The two calls: what a `receive` and a `send` do to the message and the output.
+use mathlib.Core.List.{List, [], _∷_, _++_}
+use lib.ListN.{getD, drop, length, replicate}
+use Prim.Native.Nat.{_+_, ℕ, suc}
+use Rattle.model.specs.State.{Common, refill, State, each, fieldsOf}
+use Rattle.model.specs.declared.Entry.{Entry}
+use Rattle.model.specs.declared.Entry.the-variants.{Number, Absent}
+use Rattle.model.specs.declared.Level.{Level}
+use Rattle.model.specs.declared.Level.the-variants.{Low, High}
+use Rattle.model.specs.declared.Key.{Key}
+use Rattle.model.specs.declared.Key.the-variants.{Open, Secret}
+
+-- ---- `receive`
+
+-- "at an open key both fields are the entry or absent. At a secret key the low field is the dummy, whether or not the line has that key, and the
+-- high field is the entry or absent."
+unfoldable pub shown : Level → Key → Entry → Entry
+shown Low Open e = e
+shown Low (Secret d) e = Number d
+shown High Open e = e
+shown High (Secret d) e = e
+
+-- the fields of a level as a message line fills them, key by key
+unfoldable pub fill : Level → List Key → List Entry → List Entry
+fill l [] es = []
+fill l (k ∷ ks) es = shown l k (getD es 0 Absent) ∷ fill l ks (drop 1 es)
+
+-- "`receive` takes the next message line and fills all fields"; "With no line left, every field becomes absent."
+unfoldable pub received : List Key → List (List Entry) → Level → List Entry
+received ks [] l = replicate (length ks) Absent
+received ks (line ∷ rest) l = fill l ks line
+
+-- the line is taken. "Messages taken counts lines, so a `receive` with none left adds nothing."
+unfoldable pub takes : List (List Entry) → Common → Common
+takes [] c = c
+takes (line ∷ rest) c = record { rest = rest; taken = c .taken + 1; sent = c .sent; positions = c .positions; steps = c .steps }
+
+unfoldable pub receive : List Key → State → State
+receive ks s = record { processes = each (λ l. refill (received ks (s .common .rest) l)) (s .processes); common = takes (s .common .rest) (s .common) }
+
+-- ---- `send`
+
+-- "open keys from the low fields, secret keys from the high fields"
+unfoldable pub source : Key → Level
+source Open = Low
+source (Secret d) = High
+
+-- the columns of the keys from number i on, each from the fields of its level
+unfoldable pub columns : ℕ → List Key → (Level → List Entry) → List Entry
+columns i [] f = []
+columns i (k ∷ ks) f = getD (f (source k)) i Absent ∷ columns (suc i) ks f
+
+abbrev pub sends : List Entry → Common → Common
+sends es c = record { rest = c .rest; taken = c .taken; sent = c .sent ++ (record { position = c .positions; columns = es } ∷ []); positions = c .positions; steps = c .steps }
+
+-- "`send` writes one line"; "The message is unchanged by it."
+unfoldable pub send : List Key → State → State
+send ks s = record { processes = s .processes; common = sends (columns 0 ks (fieldsOf s)) (s .common) }

@@ -1,0 +1,29 @@
+-- The `msg` lines.
+use mathlib.Core.List.{List, [], _∷_}
+use Prim.Native.Nat.{ℕ}
+use Rattle.model.specs.Parsed.{Parsed, got, _>>=_}
+use Rattle.model.specs.Pair.{ByKey, part, everywhere}
+use Rattle.model.specs.Text.{split, comma, bytes}
+use Rattle.model.specs.Limits.{mostMessages}
+use Rattle.model.specs.Phase.{Phase, many, oneMore}
+use Rattle.model.specs.declared.Entry.{Entry}
+use Rattle.model.specs.declared.Entry.the-variants.{Number, Absent}
+
+-- "Parts run from left to right."
+unfoldable pub parts : ℕ → ByKey Entry → List (List ℕ) → Parsed (ByKey Entry)
+parts K e [] = got e
+parts K e (p ∷ ps) = part Number K e p >>= (λ e′. parts K e′ ps)
+
+abbrev pub allAbsent : ℕ → ByKey Entry
+allAbsent K = everywhere K Absent
+
+-- "`msg=key:value,key:value`, keys rising within a line. `msg=` alone is a message with no entries."
+unfoldable pub message : ℕ → List ℕ → Parsed (ByKey Entry)
+message K [] = got (allAbsent K)
+message K (b ∷ bs) = parts K (allAbsent K) (split comma (b ∷ bs))
+
+unfoldable pub messageLine : ℕ → List ℕ → Parsed (List Entry)
+messageLine K s = message K s >>= (λ e. got (e .at))
+
+unfoldable pub readMessages : ℕ → ℕ → List (List ℕ) → Phase (List (List Entry))
+readMessages K n ls = many (bytes "msg") (oneMore mostMessages (messageLine K)) n [] ls

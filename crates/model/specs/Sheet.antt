@@ -1,0 +1,70 @@
+-- Reading a sheet: the job that it says, or the refusal that comes first, with its line.
+use Prim.Native.Nat.{ℕ, _+_}
+use mathlib.Core.List.{List, [], _∷_}
+use mathlib.Core.Bool.{cond, Bool, false}
+use lib.Dec.{ltb, eqb, leb}
+use lib.ListN.{length}
+use Rattle.model.specs.Job.{Job}
+use Rattle.model.specs.Phase as Phase
+use Rattle.model.specs.Phase.{Phase}
+use Rattle.model.specs.Head.{readFirst, readKeys, readSecrets}
+use Rattle.model.specs.Program.{readCommands}
+use Rattle.model.specs.Messages.{readMessages}
+use Rattle.model.specs.Turns.{readTurns}
+use Rattle.model.specs.Text.{classOf, forbiddenClass, lineFeed, lines, count}
+use Rattle.model.specs.Limits.{mostBytes}
+use Rattle.model.specs.declared.Command.{Command}
+use Rattle.model.specs.declared.Key.{Key}
+
+-- "A sheet is accepted exactly when no refusal from the input other than 10 applies to it."
+pub data Reading : Type 0 where
+  refused : ℕ → ℕ → Reading
+  accepted : Job → Reading
+
+-- the next phase, unless this one refused
+abbrev pub next : {A : Type 0} → Phase A → (A → ℕ → List (List ℕ) → Reading) → Reading
+next (Phase.got a n ls) f = f a n ls
+next (Phase.refused r n) f = refused r n
+
+-- Refusal 7: "a target exceeds the count of commands"; "7 comes last, for the first such line, once every line has passed." The commands are
+-- those from line n on, m is their count, and a command without a target has 0 there.
+unfoldable pub targets : ℕ → ℕ → List Command → Job → Reading
+targets n m [] j = accepted j
+targets n m (c ∷ cs) j = cond (ltb m (c .t)) (refused 7 n) (targets (n + 1) m cs j)
+
+-- the lines after the secrets: there are K keys, which are ks, and the first `do` line is the line top
+unfoldable pub readBody : List Key → ℕ → ℕ → List (List ℕ) → Reading
+readBody ks K top ls₀ =
+    next (readCommands K top ls₀) (λ cs n₁ ls₁.
+    next (readMessages K n₁ ls₁) (λ ms n₂ ls₂.
+    next (readTurns n₂ ls₂) (λ ts n₃ ls₃.
+    targets top (length cs) cs (record { keys = ks; commands = cs; messages = ms; turns = ts }))))
+
+-- "then line by line from the top"
+unfoldable pub readLines : List (List ℕ) → Reading
+readLines ls₀ =
+    next (readFirst 1 ls₀) (λ one n₁ ls₁.
+    next (readKeys n₁ ls₁) (λ K n₂ ls₂.
+    next (readSecrets K n₂ ls₂) (λ ks top ls₃.
+    readBody (ks .at) K top ls₃)))
+
+-- ---- The whole sheet
+
+-- Refusal 2: "a byte that is neither 10 nor 32 to 126 (its line, the first such)": that line, counted from n, or 0 where there is none
+unfoldable pub forbiddenLine : ℕ → List ℕ → ℕ
+forbiddenLine n [] = 0
+forbiddenLine n (b ∷ bs) = cond (eqb (classOf b) forbiddenClass) n (forbiddenLine (cond (eqb b lineFeed) (n + 1) n) bs)
+
+-- a text that is not empty and whose last byte is a line feed
+unfoldable pub closed : List ℕ → Bool
+closed [] = false
+closed (b ∷ []) = eqb b lineFeed
+closed (b ∷ c ∷ bs) = closed (c ∷ bs)
+
+-- "Order: 10, 1, 2 over the whole sheet, then line by line from the top". Refusal 1: "more than 16,384 bytes; line 0". Refusal 2, "else the last
+-- byte is not 10, or the sheet is empty (line = line feeds + 1)"
+unfoldable pub readSheet : List ℕ → Reading
+readSheet s =
+    cond (ltb mostBytes (length s)) (refused 1 0)
+    (cond (leb 1 (forbiddenLine 1 s)) (refused 2 (forbiddenLine 1 s))
+    (cond (closed s) (readLines (lines s)) (refused 2 (count lineFeed s + 1))))

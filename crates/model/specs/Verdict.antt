@@ -1,0 +1,58 @@
+-- What is found before a turn: one of the endings "From the state", or that the turn is taken; and whether a high execution's turn passes idle.
+use Prim.Native.Nat.{ℕ, _*_, _-_}
+use mathlib.Core.List.{List, [], _∷_}
+use lib.ListN.{length}
+use mathlib.Core.Bool.{Bool, false, true, cond}
+use lib.Dec.{ltb, leb}
+use Rattle.model.specs.State.{State, command, process, stopped}
+use Rattle.model.specs.Output.{lineLength}
+use Rattle.model.specs.Step.{callOf}
+use Rattle.model.specs.declared.Key.{Key}
+use Rattle.model.specs.declared.Call.{Call}
+use Rattle.model.specs.declared.Call.the-variants.{Neither, Receives, Sends}
+use Rattle.model.specs.declared.Level.{Level}
+use Rattle.model.specs.declared.Command.{Command}
+use Rattle.model.specs.declared.Level.the-variants.{Low, High}
+use Rattle.model.specs.declared.Ending.the-variants.{Stopped, LettersUsed, NoRoom}
+use Rattle.model.specs.declared.Verdict.{Verdict}
+use Rattle.model.specs.declared.Verdict.the-variants.{GoesOn, Ends}
+
+-- "Bytes written is 10 + 12 × K for each line sent."
+unfoldable pub written : List Key → State → ℕ
+written ks s = lineLength ks * length (s .common .sent)
+
+-- "its command is `send`, and fewer bytes are left than a line needs"
+unfoldable pub short : Call → ℕ → ℕ → Bool
+short Neither left line = false
+short Receives left line = false
+short Sends left line = ltb left line
+
+-- "all letters are used"
+abbrev pub allUsed : List Level → Bool
+allUsed [] = true
+allUsed (l ∷ ls) = false
+
+-- "a letter L is next, its command is `send`, and fewer bytes are left than a line needs", of room bytes lent
+unfoldable pub noRoom : List Key → List Command → ℕ → List Level → State → Bool
+noRoom ks cs room [] s = false
+noRoom ks cs room (Low ∷ ls) s = short (callOf (command cs (process Low s) .op)) (room - written ks s) (lineLength ks)
+noRoom ks cs room (High ∷ ls) s = false
+
+-- The table of endings, "Before each turn", "tested in that order": 0 "the low execution has stopped"; 31 "it has not, and all letters are used"; 32
+abbrev pub verdictBy : Bool → Bool → Bool → Verdict
+verdictBy atEnd used full = cond atEnd (Ends Stopped) (cond used (Ends LettersUsed) (cond full (Ends NoRoom) GoesOn))
+
+-- the letters are those that are left
+unfoldable pub verdict : List Key → List Command → ℕ → List Level → State → Verdict
+verdict ks cs room ls s = verdictBy (stopped cs (process Low s)) (allUsed ls) (noRoom ks cs room ls s)
+
+-- "Its j-th call (j from 1) moves on only if the low execution has made at least j calls, of either kind.": it waits where the low one has made no
+-- more calls than it has itself
+unfoldable pub waits : Call → ℕ → ℕ → Bool
+waits Neither low own = false
+waits Receives low own = leb low own
+waits Sends low own = leb low own
+
+-- "Otherwise the turn passes idle. A stopped high execution also idles."
+unfoldable pub idles : Bool → Call → ℕ → ℕ → Bool
+idles atEnd call low own = cond atEnd true (waits call low own)

@@ -1,2 +1,0 @@
--- The laws of the `secret` and `msg` lines.
-pub mod Laws

@@ -1,0 +1,2 @@
+-- The laws of the `msg` lines.
+pub mod Laws

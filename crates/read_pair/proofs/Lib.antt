@@ -1,0 +1,2 @@
+-- The laws of pairs that the crates above cite.
+pub mod Laws

@@ -1,0 +1,23 @@
+-- What the readers of the commands answer: s is the text that one is given, and first the number of its first line.
+use mathlib.Core.Path.{_≡_}
+use mathlib.Core.Bool.{cond}
+use mathlib.Core.List.{List}
+use Prim.Native.Nat.{ℕ, _+_, _≤_}
+use lib.Dec.{ltb}
+use lib.ListN.{length, take}
+use Rattle.model.specs.Job.{Job}
+use Rattle.model.specs.Program.{readCommands}
+use Rattle.model.specs.Sheet.{accepted, refused, targets}
+use Rattle.model.specs.Stored.{commandCapacity}
+use Rattle.model.specs.declared.Command.{Command}
+use Rattle.read_line.specs.Line.{Reads}
+use Rattle.read_program.specs.declared.Commands.{Commands}
+
+pub record CommandsRead (K : ℕ) (s : List ℕ) (first : ℕ) (r : Commands) : Type 0 where
+  pub read : Reads (readCommands K) s first (r .phase) (take (r .count) (r .commands))
+  pub few : r .count ≤ length (r .commands)
+
+-- r is the place of the first of m commands whose target exceeds m: the reading of the job j ends there, the first command being on the line top
+pub record FirstFar (cs : List Command) (m r : ℕ) : Type 0 where
+  pub reading : (top : ℕ) (j : Job) → targets top m (take m cs) j ≡ cond (ltb r m) (refused 7 (top + r)) (accepted j)
+  pub place : r ≤ commandCapacity

@@ -1,0 +1,184 @@
+-- Laws of the lines in their order: what is read after a phase, and what its refusal is.
+use mathlib.Core.Path.{_≡_, refl, sym, ap, _∙_, subst}
+use mathlib.Core.Bool.{Bool, true, false, cond}
+use mathlib.Core.List.{List, [], _∷_}
+use Prim.Native.Nat.{ℕ, suc, _+_, _-_, _<_, _≤_}
+use native.Mathlib.Omega.{arith}
+use lib.Dec.{eqb}
+use lib.ListN.{length, take, drop, length-drop}
+use borrow.Author.Tests.{lt-ltb, le-ltb, le-leb, lt-leb}
+use Rattle.model.specs.Limits.{mostBytes, mostKeys}
+use Rattle.model.specs.Text.{bytes, lines, count, classOf, lineFeed}
+use Rattle.model.specs.Phase as Model
+use Rattle.model.specs.Pair.{ByKey}
+use Rattle.model.specs.Head.{sheetLine, keysLine, readFirst, readKeys, readSecrets}
+use Rattle.model.specs.Program.{readCommands}
+use Rattle.model.specs.Messages.{readMessages}
+use Rattle.model.specs.Turns.{readTurns}
+use Rattle.model.specs.Job.{Job}
+use Rattle.model.specs.Sheet.{Reading, accepted, refused, next, targets, readBody, readLines, forbiddenLine, closed, readSheet}
+use Rattle.model.specs.declared.Command.{Command}
+use Rattle.model.specs.declared.Entry.{Entry}
+use Rattle.model.specs.declared.Key.{Key}
+use Rattle.model.specs.declared.Level.{Level}
+use Rattle.read_text.specs.Text.{free, Word}
+use Rattle.read_line.specs.Line.{Reads, Ahead, phaseAs}
+use Rattle.read_line.specs.declared.Phase.{Phase}
+use Rattle.read_line.specs.declared.Phase.the-variants.{Got, Refused}
+use Rattle.read_head.specs.Head.{NumberRead}
+use Rattle.read_head.specs.declared.NumberLine.{NumberLine}
+use Rattle.read_program.specs.Program.{FirstFar}
+use Rattle.read_sheet.specs.Sheet.{Answers}
+use Rattle.read_sheet.specs.declared.Read.{Read}
+use Rattle.read_sheet.specs.declared.Status.{Status}
+use Rattle.read_sheet.specs.declared.Status.the-variants.{Got as StatusGot, Refused as StatusRefused}
+
+sheet-word : Word (bytes "sheet") (115 ∷ 104 ∷ 101 ∷ 101 ∷ 116 ∷ 61 ∷ [])
+unfolding bytes free
+sheet-word = record { sign = refl; no-sign = refl; no-feed = refl }
+
+keys-word : Word (bytes "keys") (107 ∷ 101 ∷ 121 ∷ 115 ∷ 61 ∷ [])
+unfolding bytes free
+keys-word = record { sign = refl; no-sign = refl; no-feed = refl }
+
+-- the two lines of a number as phases
+module _ {s : List ℕ} {n : ℕ} {r : NumberLine} where
+  pub first-phase : NumberRead (115 ∷ 104 ∷ 101 ∷ 101 ∷ 116 ∷ 61 ∷ []) 1 s n r → Reads readFirst s n (r .phase) (r .value)
+  unfolding readFirst sheetLine
+  first-phase h = h .read (bytes "sheet") sheet-word
+
+  pub keys-phase : NumberRead (107 ∷ 101 ∷ 121 ∷ 115 ∷ 61 ∷ []) mostKeys s n r → Reads readKeys s n (r .phase) (r .value)
+  unfolding readKeys keysLine
+  keys-phase h = h .read (bytes "keys") keys-word
+
+-- the same answer to an equal reading
+pub answers : {x y : Reading} {r : Read} → y ≡ x → Answers x r → Answers y r
+answers e a = record { reading = a .reading ∙ sym e; stored = a .stored; nothing = a .nothing }
+
+-- what was read is not refused
+pub not-both : {A : Type 0} {n l : ℕ} → _≡_ {A = Status} StatusGot (StatusRefused n l) → A
+not-both e = absurd (let z : _≡_ {A = ℕ} 0 1 = cc in omega arith)
+
+-- a part of a text from a to its end
+abbrev pub from : ℕ → List ℕ → List ℕ
+from a s = take (length s - a) (drop a s)
+
+-- ---- A phase P over s, and the reading k of what it read and of the lines left: t is what is left of s from b on
+
+module _ {A : Type 0} {P : ℕ → List (List ℕ) → Model.Phase A} {s : List ℕ} {first : ℕ} {c : Phase} {a : A} (h : Reads P s first c a) (k : A → ℕ → List (List ℕ) → Reading) where
+  stops : {r n : ℕ} → c ≡ Refused r n → next (P first (lines s)) k ≡ refused r n
+  stops q = ap (λ (p : Model.Phase A). next p k) (sym (h .read) ∙ ap (λ (d : Phase). phaseAs d a s) q)
+
+  goes-on : {n b : ℕ} {t : List ℕ} → c ≡ Got n b → t ≡ drop b s → next (P first (lines s)) k ≡ k a n (lines t)
+  goes-on {n} q d = ap (λ (p : Model.Phase A). next p k) (sym (h .read) ∙ ap (λ (e : Phase). phaseAs e a s) q) ∙ ap (λ (u : List ℕ). k a n (lines u)) (sym d)
+
+module _ {A : Type 0} {P : ℕ → List (List ℕ) → Model.Phase A} {s : List ℕ} {first : ℕ} {c : Phase} {a : A} (h : Reads P s first c a) where
+  -- the lines left stand within s, and their numbers within those of s
+  pub reached : {n b : ℕ} → c ≡ Got n b → (b ≤ length s) × (n ≤ first + b)
+  reached q = subst (Ahead s first) q (h .ahead)
+
+  pub bounded : {n b : ℕ} {t : List ℕ} → c ≡ Got n b → t ≡ drop b s → n + length t ≤ first + length s
+  bounded {n} {b} {t} q d =
+      let r = reached q in
+      let l : length t ≡ length s - b = rw d (length-drop b s) in
+      omega arith
+
+-- ---- The first line, the keys and the secrets
+
+abbrev afterKeys : ℕ → ℕ → List (List ℕ) → Reading
+afterKeys K n₁ ls₂ = next (readSecrets K n₁ ls₂) (λ ks top ls₃. readBody (ks .at) K top ls₃)
+
+abbrev afterFirst : ℕ → ℕ → List (List ℕ) → Reading
+afterFirst x n₀ ls₁ = next (readKeys n₀ ls₁) afterKeys
+
+module _ {s : List ℕ} {c₀ : Phase} {x : ℕ} (h₀ : Reads readFirst s 1 c₀ x) where
+  pub stop-first : {r n : ℕ} → c₀ ≡ Refused r n → readLines (lines s) ≡ refused r n
+  unfolding readLines readBody
+  stop-first q = stops h₀ afterFirst q
+
+  module _ {n₀ a : ℕ} (q₀ : c₀ ≡ Got n₀ a) {t : List ℕ} (d₀ : t ≡ drop a s) {c₁ : Phase} {K : ℕ} (h₁ : Reads readKeys t n₀ c₁ K) where
+    pub stop-keys : {r n : ℕ} → c₁ ≡ Refused r n → readLines (lines s) ≡ refused r n
+    unfolding readLines readBody
+    stop-keys q = goes-on h₀ afterFirst q₀ d₀ ∙ stops h₁ afterKeys q
+
+    module _ {n₁ b : ℕ} (q₁ : c₁ ≡ Got n₁ b) {u : List ℕ} (d₁ : u ≡ drop b t) {c₂ : Phase} {ks : ByKey Key} (h₂ : Reads (readSecrets K) u n₁ c₂ ks) where
+      pub stop-secrets : {r n : ℕ} → c₂ ≡ Refused r n → readLines (lines s) ≡ refused r n
+      unfolding readLines readBody
+      stop-secrets q = goes-on h₀ afterFirst q₀ d₀ ∙ goes-on h₁ afterKeys q₁ d₁ ∙ stops h₂ (λ e top ls₃. readBody (e .at) K top ls₃) q
+
+      pub heads-read : {top d : ℕ} {v : List ℕ} → c₂ ≡ Got top d → v ≡ drop d u → readLines (lines s) ≡ readBody (ks .at) K top (lines v)
+      unfolding readLines readBody
+      heads-read q d₂ = goes-on h₀ afterFirst q₀ d₀ ∙ goes-on h₁ afterKeys q₁ d₁ ∙ goes-on h₂ (λ e top ls₃. readBody (e .at) K top ls₃) q d₂
+
+-- ---- The commands, the messages and the turns
+
+abbrev job : List Key → List Command → List (List Entry) → List Level → Job
+job ks cs ms ts = record { keys = ks; commands = cs; messages = ms; turns = ts }
+
+module _ (ks : List Key) (K : ℕ) {top : ℕ} {s : List ℕ} {c₀ : Phase} {cs : List Command} (h₀ : Reads (readCommands K) s top c₀ cs) where
+  abbrev afterMessages : List Command → List (List Entry) → ℕ → List (List ℕ) → Reading
+  afterMessages cs ms n₂ ls₂ = next (readTurns n₂ ls₂) (λ ts n₃ ls₃. targets top (length cs) cs (job ks cs ms ts))
+
+  abbrev afterCommands : List Command → ℕ → List (List ℕ) → Reading
+  afterCommands cs n₂ ls₄ = next (readMessages K n₂ ls₄) (afterMessages cs)
+
+  pub stop-commands : {r n : ℕ} → c₀ ≡ Refused r n → readBody ks K top (lines s) ≡ refused r n
+  unfolding readBody
+  stop-commands q = stops h₀ afterCommands q
+
+  module _ {n₂ a : ℕ} (q₀ : c₀ ≡ Got n₂ a) {t : List ℕ} (d₀ : t ≡ drop a s) {c₁ : Phase} {ms : List (List Entry)} (h₁ : Reads (readMessages K) t n₂ c₁ ms) where
+    pub stop-messages : {r n : ℕ} → c₁ ≡ Refused r n → readBody ks K top (lines s) ≡ refused r n
+    unfolding readBody
+    stop-messages q = goes-on h₀ afterCommands q₀ d₀ ∙ stops h₁ (afterMessages cs) q
+
+    module _ {n₃ b : ℕ} (q₁ : c₁ ≡ Got n₃ b) {u : List ℕ} (d₁ : u ≡ drop b t) {c₂ : Phase} {ts : List Level} (h₂ : Reads readTurns u n₃ c₂ ts) where
+      abbrev finished : List Level → ℕ → List (List ℕ) → Reading
+      finished ls n ls₃ = targets top (length cs) cs (job ks cs ms ls)
+
+      pub stop-turns : {r n : ℕ} → c₂ ≡ Refused r n → readBody ks K top (lines s) ≡ refused r n
+      unfolding readBody
+      stop-turns q = goes-on h₀ afterCommands q₀ d₀ ∙ goes-on h₁ (afterMessages cs) q₁ d₁ ∙ stops h₂ finished q
+
+      pub body-read : {n d : ℕ} → c₂ ≡ Got n d → readBody ks K top (lines s) ≡ targets top (length cs) cs (job ks cs ms ts)
+      unfolding readBody
+      body-read {n} {d} q = goes-on h₀ afterCommands q₀ d₀ ∙ goes-on h₁ (afterMessages cs) q₁ d₁ ∙ goes-on h₂ finished {t = drop d u} q refl
+
+-- ---- The targets
+
+module _ {cs : List Command} {m r : ℕ} (f : FirstFar cs m r) (top : ℕ) (j : Job) where
+  pub targets-far : r < m → targets top m (take m cs) j ≡ refused 7 (top + r)
+  targets-far h = f .reading top j ∙ rw (lt-ltb _ _ h)
+
+  pub targets-near : m ≤ r → targets top m (take m cs) j ≡ accepted j
+  targets-near h = f .reading top j ∙ rw (le-ltb _ _ h)
+
+-- ---- The whole sheet
+
+pub forbidden-most : (n : ℕ) (s : List ℕ) → forbiddenLine n s ≤ n + length s
+unfolding forbiddenLine
+forbidden-most n [] = omega arith
+forbidden-most n (b ∷ bs) = go (eqb (classOf b) 10) (eqb b 10) (forbidden-most (n + 1) bs) (forbidden-most n bs)
+  where
+    go : (x y : Bool) → forbiddenLine (n + 1) bs ≤ n + 1 + length bs → forbiddenLine n bs ≤ n + length bs → cond x n (forbiddenLine (cond y (n + 1) n) bs) ≤ n + suc (length bs)
+    go true y h k = omega arith
+    go false true h k = omega arith
+    go false false h k = omega arith
+
+module _ (s : List ℕ) where
+  pub sheet-long : mostBytes < length s → readSheet s ≡ refused 1 0
+  unfolding readSheet
+  sheet-long h = rw (lt-ltb _ _ h)
+
+  module _ (h : length s ≤ mostBytes) where
+    pub sheet-forbidden : 1 ≤ forbiddenLine 1 s → readSheet s ≡ refused 2 (forbiddenLine 1 s)
+    unfolding readSheet
+    sheet-forbidden f = rw (le-ltb _ _ h, le-leb _ _ f)
+
+    module _ (f : forbiddenLine 1 s < 1) where
+      pub sheet-open : closed s ≡ false → readSheet s ≡ refused 2 (count lineFeed s + 1)
+      unfolding readSheet
+      sheet-open e = rw (le-ltb _ _ h, lt-leb _ _ f, e)
+
+      pub sheet-lines : closed s ≡ true → readSheet s ≡ readLines (lines s)
+      unfolding readSheet
+      sheet-lines e = rw (le-ltb _ _ h, lt-leb _ _ f, e)

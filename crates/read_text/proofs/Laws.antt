@@ -1,0 +1,279 @@
+-- Laws of the definitions on bytes and numbers, in the form in which a loop over a slice meets them: at a place i of the list s.
+use mathlib.Core.Path.{_≡_, refl, sym, ap, _∙_}
+use mathlib.Core.List.{List, [], _∷_}
+use mathlib.Core.Bool.{Bool, true, false, cond, _&&_, true≢false}
+use Prim.Native.Nat.{ℕ, suc, _+_, _-_, _*_, _<_, _≤_, pred}
+use native.Mathlib.Numerals.{add-one}
+use native.Mathlib.Omega.{arith}
+use lib.Dec.{eqb, leb}
+use lib.ListN.{length, getD, take, drop, drop-of-length-le, length-drop}
+use lib.Seq.{drop-cons, take-all}
+use lib.IntN.{pos, negsuc}
+use borrow.Author.Tests.{eq-eqb, ne-eqb, leb-true, le-leb, lt-leb}
+use Rattle.model.specs.Limits.{greatestNumber, leastNumber}
+use Rattle.model.specs.Parsed.{got, refused, _>>=_}
+use Rattle.model.specs.Number.{digits, digitsTo, within, upTo, fromOne, natural, negative, positive, number}
+use Rattle.model.specs.Text.{find, count, classOf, between}
+use Rattle.model.specs.Sheet.{forbiddenLine, closed}
+use Rattle.read_text.specs.Text.{forbiddenPlace}
+use Rattle.read_text.specs.Text.{starts}
+
+-- one byte of what is left
+pub uncons : (s : List ℕ) (i : ℕ) → i < length s → drop i s ≡ getD s i 0 ∷ drop (i + 1) s
+uncons s i h = rw (add-one, drop-cons s i 0 h)
+
+pub done : (s : List ℕ) (i : ℕ) → length s ≤ i → drop i s ≡ []
+done s i h = drop-of-length-le s h
+
+pub find-here : (c : ℕ) (s : List ℕ) (i : ℕ) → i < length s → getD s i 0 ≡ c → find c (drop i s) ≡ 0
+unfolding find
+find-here c s i h e = rw (uncons s i h, eq-eqb _ _ e)
+
+pub find-next : (c : ℕ) (s : List ℕ) (i : ℕ) → i < length s → (getD s i 0 ≡ c → ⊥) → find c (drop i s) ≡ suc (find c (drop (i + 1) s))
+unfolding find
+find-next c s i h n = rw (uncons s i h, ne-eqb _ _ n)
+
+pub find-later : (c : ℕ) (s : List ℕ) (i : ℕ) → i + 1 < length s → (getD s i 0 ≡ c → ⊥) → (getD s (i + 1) 0 ≡ c → ⊥) → find c (drop i s) ≡ 2 + find c (drop (i + 2) s)
+find-later c s i h n m =
+    let k : i < length s = omega arith in
+    let q : i + 1 + 1 ≡ i + 2 = omega arith in
+    let e = ap (λ (j : ℕ). find c (drop j s)) q in
+    omega (arith, find-next c s i k n, find-next c s (i + 1) h m, e)
+
+pub find-end : (c : ℕ) (s : List ℕ) (i : ℕ) → length s ≤ i → find c (drop i s) ≡ 0
+unfolding find
+find-end c s i h = rw (done s i h)
+
+pub forbidden-here : (s : List ℕ) (i : ℕ) → i < length s → classOf (getD s i 0) ≡ 10 → forbiddenPlace (drop i s) ≡ 0
+unfolding forbiddenPlace
+forbidden-here s i h e = rw (uncons s i h, eq-eqb _ _ e)
+
+pub forbidden-next : (s : List ℕ) (i : ℕ) → i < length s → (classOf (getD s i 0) ≡ 10 → ⊥) → forbiddenPlace (drop i s) ≡ suc (forbiddenPlace (drop (i + 1) s))
+unfolding forbiddenPlace
+forbidden-next s i h e = rw (uncons s i h, ne-eqb _ _ e)
+
+pub forbidden-end : (s : List ℕ) (i : ℕ) → length s ≤ i → forbiddenPlace (drop i s) ≡ 0
+unfolding forbiddenPlace
+forbidden-end s i h = rw (done s i h)
+
+-- the line of the first forbidden byte, by its place
+pub forbidden-none : (n : ℕ) (s : List ℕ) → length s ≤ forbiddenPlace s → forbiddenLine n s ≡ 0
+unfolding forbiddenLine forbiddenPlace
+forbidden-none n [] h = refl
+forbidden-none n (b ∷ bs) h = go (eqb (classOf b) 10) (λ m g. forbidden-none m bs g) h
+  where
+    go : (t : Bool) → ((m : ℕ) → length bs ≤ forbiddenPlace bs → forbiddenLine m bs ≡ 0) → suc (length bs) ≤ cond t 0 (suc (forbiddenPlace bs)) → cond t n (forbiddenLine (cond (eqb b 10) (n + 1) n) bs) ≡ 0
+    go true rest g = absurd (omega arith)
+    go false rest g = rest _ (omega arith)
+
+pub forbidden-found : (n : ℕ) (s : List ℕ) → forbiddenPlace s < length s → forbiddenLine n s ≡ n + count 10 (take (forbiddenPlace s) s)
+unfolding forbiddenLine forbiddenPlace count
+forbidden-found n [] h = absurd (omega arith)
+forbidden-found n (b ∷ bs) h = go (eqb (classOf b) 10) (λ m g. forbidden-found m bs g) h
+  where
+    line : (t : Bool) (c : ℕ) → cond t (n + 1) n + c ≡ n + cond t (suc c) c
+    line true c = omega arith
+    line false c = refl
+
+    go : (t : Bool) → ((m : ℕ) → forbiddenPlace bs < length bs → forbiddenLine m bs ≡ m + count 10 (take (forbiddenPlace bs) bs)) → cond t 0 (suc (forbiddenPlace bs)) < suc (length bs)
+        → cond t n (forbiddenLine (cond (eqb b 10) (n + 1) n) bs) ≡ n + count 10 (take (cond t 0 (suc (forbiddenPlace bs))) (b ∷ bs))
+    go true rest g = omega arith
+    go false rest g = rest (cond (eqb b 10) (n + 1) n) (omega arith) ∙ line (eqb b 10) (count 10 (take (forbiddenPlace bs) bs))
+
+nonzero : (t : Bool) (x y : ℕ) → (x ≡ 0 → ⊥) → (y ≡ 0 → ⊥) → cond t x y ≡ 0 → ⊥
+nonzero true x y f g e = f e
+nonzero false x y f g e = g e
+
+pub and-both : (p q : Bool) → p && q ≡ true → (p ≡ true) × (q ≡ true)
+and-both true q e = (refl, e)
+and-both false q e = absurd (let z : _≡_ {A = ℕ} 0 1 = ap (λ (b : Bool). cond b 1 0) e in omega arith)
+
+-- a byte of class 0 is a digit
+pub class-digit : (b : ℕ) → classOf b ≡ 0 → (48 ≤ b) × (b ≤ 57)
+unfolding classOf
+class-digit b e = go (between 48 57 b) refl
+  where
+    go : (t : Bool) → between 48 57 b ≡ t → (48 ≤ b) × (b ≤ 57)
+    go true p = let q = and-both (leb 48 b) (leb b 57) p in (leb-true _ _ (q .0), leb-true _ _ (q .1))
+    go false p =
+        absurd (nonzero (eqb b 45) 1 _ (omega arith)
+        (nonzero (eqb b 44) 2 _ (omega arith)
+        (nonzero (eqb b 58) 3 _ (omega arith)
+        (nonzero (eqb b 61) 4 _ (omega arith)
+        (nonzero (eqb b 32) 5 _ (omega arith)
+        (nonzero (eqb b 10) 6 _ (omega arith)
+        (nonzero (between 97 122 b) 7 _ (omega arith)
+        (nonzero (between 65 90 b) 8 _ (omega arith)
+        (nonzero (between 32 126 b) 9 10 (omega arith) (omega arith)))))))))
+        (rw p at e))
+
+-- and a digit is of class 0
+pub digit-class : (b : ℕ) → 48 ≤ b → b ≤ 57 → classOf b ≡ 0
+unfolding classOf
+digit-class b h l = rw (le-leb 48 b h, le-leb b 57 l)
+
+-- digits: a byte more, a byte that is none, the end, and a value that is past the limit already
+pub digits-next : (m a : ℕ) (s : List ℕ) (i : ℕ) → i < length s → classOf (getD s i 0) ≡ 0
+    → digitsTo m a (drop i s) ≡ digitsTo m (a * 10 + (getD s i 0 - 48)) (drop (i + 1) s)
+unfolding digitsTo digits
+digits-next m a s i h e = rw (uncons s i h, eq-eqb _ _ e)
+
+pub digits-bad : (m a : ℕ) (s : List ℕ) (i : ℕ) → i < length s → (classOf (getD s i 0) ≡ 0 → ⊥) → digitsTo m a (drop i s) ≡ refused 4
+unfolding digitsTo digits
+digits-bad m a s i h e = rw (uncons s i h, ne-eqb _ _ e)
+
+pub digits-end : (m a : ℕ) (s : List ℕ) (i : ℕ) → length s ≤ i → a ≤ m → digitsTo m a (drop i s) ≡ got a
+unfolding digitsTo digits within
+digits-end m a s i h l = rw (done s i h, le-leb _ _ l)
+
+pub digits-past : (m a : ℕ) (s : List ℕ) → m < a → digitsTo m a s ≡ refused 4
+unfolding digitsTo digits within
+digits-past m a [] l = rw (lt-leb _ _ l)
+digits-past m a (b ∷ bs) l = go (eqb (classOf b) 0) (digits-past m (a * 10 + (b - 48)) bs (omega arith))
+  where
+    go : (t : Bool) → digitsTo m (a * 10 + (b - 48)) bs ≡ refused 4 → (cond t (digits (a * 10 + (b - 48)) bs) (refused 4) >>= within m) ≡ refused 4
+    go true r = r
+    go false r = refl
+
+pub up-to-empty : (m : ℕ) (s : List ℕ) → length s ≡ 0 → upTo m s ≡ refused 4
+unfolding upTo natural
+up-to-empty m [] e = refl
+up-to-empty m (b ∷ s) e = absurd (omega arith)
+
+pub up-to-one : (m : ℕ) (s : List ℕ) → length s ≡ 1 → upTo m s ≡ digitsTo m 0 s
+unfolding digitsTo upTo digits natural
+up-to-one m [] e = absurd (omega arith)
+up-to-one m (b ∷ []) e = refl
+up-to-one m (b ∷ d ∷ s) e = absurd (omega arith)
+
+pub up-to-zero : (m : ℕ) (s : List ℕ) → (length s ≡ 0 → ⊥) → (length s ≡ 1 → ⊥) → getD s 0 0 ≡ 48 → upTo m s ≡ refused 4
+unfolding upTo natural
+up-to-zero m [] e f h = absurd (e refl)
+up-to-zero m (b ∷ []) e f h = absurd (f refl)
+up-to-zero m (b ∷ d ∷ s) e f h = rw (eq-eqb _ _ h)
+
+pub up-to-more : (m : ℕ) (s : List ℕ) → (length s ≡ 0 → ⊥) → (length s ≡ 1 → ⊥) → (getD s 0 0 ≡ 48 → ⊥) → upTo m s ≡ digitsTo m 0 s
+unfolding upTo digitsTo natural digits
+up-to-more m [] e f h = absurd (e refl)
+up-to-more m (b ∷ []) e f h = absurd (f refl)
+up-to-more m (b ∷ d ∷ s) e f h = rw (ne-eqb _ _ h)
+
+pub number-empty : (s : List ℕ) → length s ≡ 0 → number s ≡ refused 4
+unfolding number
+number-empty [] e = refl
+number-empty (b ∷ s) e = absurd (omega arith)
+
+pub number-minus : (s : List ℕ) → (length s ≡ 0 → ⊥) → getD s 0 0 ≡ 45 → number s ≡ negative (drop 1 s)
+unfolding number negative
+number-minus [] e h = absurd (e refl)
+number-minus (b ∷ s) e h = rw (eq-eqb _ _ h)
+
+pub number-plain : (s : List ℕ) → (length s ≡ 0 → ⊥) → (getD s 0 0 ≡ 45 → ⊥) → number s ≡ positive s
+unfolding number positive
+number-plain [] e h = absurd (e refl)
+number-plain (b ∷ s) e h = rw (ne-eqb _ _ h)
+
+pub negative-bad : (s : List ℕ) (r : ℕ) → upTo leastNumber s ≡ refused r → negative s ≡ refused r
+unfolding negative fromOne
+negative-bad s r e = rw e
+
+pub negative-zero : (s : List ℕ) (n : ℕ) → upTo leastNumber s ≡ got n → n ≡ 0 → negative s ≡ refused 4
+unfolding negative fromOne
+negative-zero s n e z = rw (e, z)
+
+pub negative-ok : (s : List ℕ) (n : ℕ) → upTo leastNumber s ≡ got n → 1 ≤ n → negative s ≡ got (negsuc (pred n))
+unfolding negative fromOne
+negative-ok s n e z = rw (e, le-leb _ _ z)
+
+pub positive-bad : (s : List ℕ) (r : ℕ) → upTo greatestNumber s ≡ refused r → positive s ≡ refused r
+unfolding positive
+positive-bad s r e = rw e
+
+pub positive-ok : (s : List ℕ) (n : ℕ) → upTo greatestNumber s ≡ got n → positive s ≡ got (pos n)
+unfolding positive
+positive-ok s n e = rw e
+
+-- a part of a slice from a to its end
+pub rest : (s : List ℕ) (a : ℕ) → take (length s - a) (drop a s) ≡ drop a s
+rest s a = take-all (length s - a) (drop a s) (simp length-drop (omega arith))
+
+-- how many c there are
+pub count-here : (c : ℕ) (s : List ℕ) (i : ℕ) → i < length s → getD s i 0 ≡ c → count c (drop i s) ≡ suc (count c (drop (i + 1) s))
+unfolding count
+count-here c s i h e = rw (uncons s i h, eq-eqb _ _ e)
+
+pub count-next : (c : ℕ) (s : List ℕ) (i : ℕ) → i < length s → (getD s i 0 ≡ c → ⊥) → count c (drop i s) ≡ count c (drop (i + 1) s)
+unfolding count
+count-next c s i h n = rw (uncons s i h, ne-eqb _ _ n)
+
+pub count-end : (c : ℕ) (s : List ℕ) (i : ℕ) → length s ≤ i → count c (drop i s) ≡ 0
+unfolding count
+count-end c s i h = rw (done s i h)
+
+pub count-most : (c : ℕ) (s : List ℕ) → count c s ≤ length s
+unfolding count
+count-most c [] = omega arith
+count-most c (b ∷ bs) = go (eqb b c) (count-most c bs)
+  where
+    go : (t : Bool) → count c bs ≤ length bs → cond t (suc (count c bs)) (count c bs) ≤ suc (length bs)
+    go true h = omega arith
+    go false h = omega arith
+
+-- the last byte
+pub closed-empty : (s : List ℕ) → length s ≡ 0 → closed s ≡ false
+unfolding closed
+closed-empty [] e = refl
+closed-empty (b ∷ s) e = absurd (omega arith)
+
+pub closed-last : (s : List ℕ) → 1 ≤ length s → closed s ≡ eqb (getD s (length s - 1) 0) 10
+unfolding closed
+closed-last [] h = absurd (omega arith)
+closed-last (b ∷ []) h = refl
+closed-last (b ∷ c ∷ s) h =
+    let e : suc (suc (length s)) - 1 ≡ suc (suc (length s) - 1) = omega arith in
+    closed-last (c ∷ s) (omega arith) ∙ ap (λ (n : ℕ). eqb (getD (b ∷ c ∷ s) n 0) 10) (sym e)
+
+-- a number from 1
+pub from-one-bad : (m : ℕ) (s : List ℕ) (r : ℕ) → upTo m s ≡ refused r → fromOne m s ≡ refused r
+unfolding fromOne
+from-one-bad m s r e = rw e
+
+pub from-one-zero : (m n : ℕ) (s : List ℕ) → upTo m s ≡ got n → n ≡ 0 → fromOne m s ≡ refused 4
+unfolding fromOne
+from-one-zero m n s e z = rw (e, z)
+
+pub from-one-ok : (m n : ℕ) (s : List ℕ) → upTo m s ≡ got n → 1 ≤ n → fromOne m s ≡ got n
+unfolding fromOne
+from-one-ok m n s e z = rw (e, le-leb _ _ z)
+
+-- what a text starts with, byte by byte
+module _ (p t : List ℕ) (i : ℕ) where
+  pub starts-end : length p ≤ i → starts (drop i p) (drop i t) ≡ true
+  unfolding starts
+  starts-end h = rw (done p i h)
+
+  module _ (h : i < length p) (l : i < length t) where
+    pub starts-next : getD t i 0 ≡ getD p i 0 → starts (drop i p) (drop i t) ≡ starts (drop (i + 1) p) (drop (i + 1) t)
+    unfolding starts
+    starts-next e = rw (uncons p i h, uncons t i l, eq-eqb _ _ e)
+
+    pub starts-differ : (getD t i 0 ≡ getD p i 0 → ⊥) → starts (drop i p) (drop i t) ≡ false
+    unfolding starts
+    starts-differ e = rw (uncons p i h, uncons t i l, ne-eqb _ _ e)
+
+pub starts-length : (p t : List ℕ) → starts p t ≡ true → length p ≤ length t
+unfolding starts
+starts-length [] t h = omega arith
+starts-length (x ∷ xs) [] h = absurd (true≢false (sym h))
+starts-length (x ∷ xs) (b ∷ bs) h = go (eqb b x) (λ g. starts-length xs bs g) h
+  where
+    go : (y : Bool) → (starts xs bs ≡ true → length xs ≤ length bs) → cond y (starts xs bs) false ≡ true → suc (length xs) ≤ suc (length bs)
+    go true i e = let j = i e in omega arith
+    go false i e = absurd (true≢false (sym e))
+
+pub starts-short : (p t : List ℕ) → length t < length p → starts p t ≡ false
+starts-short p t h = go (starts p t) refl
+  where
+    go : (y : Bool) → starts p t ≡ y → y ≡ false
+    go true e = absurd (let l = starts-length p t e in omega arith)
+    go false e = refl

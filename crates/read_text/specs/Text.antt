@@ -1,0 +1,43 @@
+-- What the readers of bytes and numbers answer, and what a text starts with and is free of.
+use mathlib.Core.Path.{_≡_}
+use mathlib.Core.Bool.{Bool, true, false, cond}
+use mathlib.Core.List.{List, [], _∷_, _++_}
+use Prim.Native.Nat.{ℕ, suc}
+use lib.Dec.{eqb}
+use lib.IntN.{ℤ}
+use Rattle.model.specs.Parsed.{Parsed, got, refused}
+use Rattle.model.specs.Text.{classOf, forbiddenClass, lineFeed, equalsSign}
+use Rattle.read_text.specs.declared.Natural.{Natural}
+use Rattle.read_text.specs.declared.Natural.the-variants.{Got, Refused}
+use Rattle.read_text.specs.declared.Whole.{Whole}
+use Rattle.read_text.specs.declared.Whole.the-variants.{Got as WholeGot, Refused as WholeRefused}
+
+abbrev pub naturalAs : Natural → Parsed ℕ
+naturalAs (Got n) = got n
+naturalAs (Refused n) = refused n
+
+abbrev pub wholeAs : Whole → Parsed ℤ
+wholeAs (WholeGot n) = got n
+wholeAs (WholeRefused n) = refused n
+
+-- the place of the first forbidden byte, or the length where there is none
+unfoldable pub forbiddenPlace : List ℕ → ℕ
+forbiddenPlace [] = 0
+forbiddenPlace (b ∷ bs) = cond (eqb (classOf b) forbiddenClass) 0 (suc (forbiddenPlace bs))
+
+-- a text starts with another
+unfoldable pub starts : List ℕ → List ℕ → Bool
+starts [] t = true
+starts (x ∷ xs) [] = false
+starts (x ∷ xs) (b ∷ bs) = cond (eqb b x) (starts xs bs) false
+
+-- no c in a text
+unfoldable pub free : ℕ → List ℕ → Bool
+free c [] = true
+free c (b ∷ bs) = cond (eqb b c) false (free c bs)
+
+-- a name w, as the code compares it: p has its equals sign too
+pub record Word (w p : List ℕ) : Type 0 where
+  pub sign : p ≡ w ++ (equalsSign ∷ [])
+  pub no-sign : free equalsSign w ≡ true
+  pub no-feed : free lineFeed (w ++ (equalsSign ∷ [])) ≡ true

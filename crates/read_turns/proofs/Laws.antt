@@ -1,0 +1,114 @@
+-- Laws of the line `turns`: its name, its letters, and the end of the text after it.
+use mathlib.Core.Path.{_≡_, refl, sym, ap, _∙_}
+use mathlib.Core.Bool.{Bool, true, false, cond}
+use mathlib.Core.List.{List, [], _∷_, _++_, map, append-nil, append-assoc}
+use Prim.Native.Nat.{ℕ, _+_, _<_, _≤_}
+use native.Mathlib.Omega.{arith}
+use lib.Dec.{eqb}
+use lib.ListN.{length, take, drop, set, getD}
+use borrow.Author.Tests.{eq-eqb, ne-eqb, lt-leb, le-leb}
+use Rattle.model.specs.Limits.{mostLetters}
+use Rattle.model.specs.Parsed.{Parsed, got, refused, _>>=_}
+use Rattle.model.specs.Text.{bytes, find, lineFeed}
+use Rattle.model.specs.Phase.{Phase, one}
+use Rattle.model.specs.Turns.{letterL, letterH, letter, letters, turnsLine, nothingAfter, readTurns}
+use Rattle.model.specs.Stored.{levelOf}
+use Rattle.model.specs.declared.Level.{Level}
+use Rattle.read_text.specs.Text.{free, Word}
+use Rattle.read_text.proofs.Laws.{uncons, done}
+use Rattle.read_text.proofs.Lines.{lines-none, lines-more}
+use Rattle.read_line.specs.Line.{Reads}
+use Rattle.read_line.specs.declared.Phase.the-variants.{Got, Refused}
+use Rattle.read_line.proofs.Laws.{map-more}
+use Rattle.read_turns.specs.Turns.{LetterKnown}
+
+pub turns-word : Word (bytes "turns") (116 ∷ 117 ∷ 114 ∷ 110 ∷ 115 ∷ 61 ∷ [])
+unfolding bytes free
+turns-word = record { sign = refl; no-sign = refl; no-feed = refl }
+
+-- ---- The letters of s, of which those before i are copied
+
+-- what letters gives after those that gave ls
+abbrev pub onto : List Level → Parsed (List Level) → Parsed (List Level)
+onto ls (got more) = got (ls ++ more)
+onto ls (refused n) = refused n
+
+pub onto-none : (r : Parsed (List Level)) → onto [] r ≡ r
+onto-none (got ls) = refl
+onto-none (refused n) = refl
+
+module _ (s : List ℕ) (i : ℕ) (copy : List ℕ) where
+  abbrev copied : List Level
+  copied = map levelOf (take i copy)
+
+  pub letters-end : length s ≤ i → onto copied (letters (drop i s)) ≡ got copied
+  unfolding letters
+  letters-end h = rw (done s i h) (ap got (append-nil copied))
+
+  module _ (h : i < length s) where
+    pub letters-bad : letter (getD s i 0) ≡ refused 9 → onto copied (letters (drop i s)) ≡ refused 9
+    unfolding letters
+    letters-bad e = rw (uncons s i h, e)
+
+    pub letters-next : i < length copy → letter (getD s i 0) ≡ got (levelOf (getD s i 0))
+        → onto copied (letters (drop i s)) ≡ onto (map levelOf (take (i + 1) (set copy i (getD s i 0)))) (letters (drop (i + 1) s))
+    unfolding letters
+    letters-next l e = rw (uncons s i h, e, map-more levelOf i copy (getD s i 0) l) (go (letters (drop (i + 1) s)))
+      where
+        go : (r : Parsed (List Level)) → onto copied (r >>= (λ ls. got (levelOf (getD s i 0) ∷ ls))) ≡ onto (copied ++ (levelOf (getD s i 0) ∷ [])) r
+        go (got ls) = ap got (sym (append-assoc copied (levelOf (getD s i 0) ∷ []) ls))
+        go (refused n) = refl
+
+module _ (b : ℕ) where
+  pub letter-low : b ≡ letterL → LetterKnown b true
+  unfolding letter
+  letter-low e = record { read = rw (eq-eqb _ _ e) }
+
+  pub letter-high : (b ≡ letterL → ⊥) → LetterKnown b (eqb b letterH)
+  unfolding letter
+  letter-high n = record { read = rw (ne-eqb _ _ n) }
+
+module _ {b : ℕ} {r : Bool} (h : LetterKnown b r) where
+  pub letter-is : r ≡ true → letter b ≡ got (levelOf b)
+  letter-is q = h .read ∙ ap (λ (x : Bool). cond x (got (levelOf b)) (refused 9)) q
+
+  pub letter-is-not : r ≡ false → letter b ≡ refused 9
+  letter-is-not q = h .read ∙ ap (λ (x : Bool). cond x (got (levelOf b)) (refused 9)) q
+
+-- ---- The line `turns`
+
+module _ (s : List ℕ) where
+  pub turns-long : mostLetters < length s → turnsLine s ≡ refused 8
+  unfolding turnsLine
+  turns-long h = rw (lt-leb _ _ h)
+
+  pub turns-none : length s ≡ 0 → turnsLine s ≡ refused 9
+  unfolding turnsLine
+  turns-none h = rw h
+
+  pub turns-letters : length s ≤ mostLetters → (length s ≡ 0 → ⊥) → turnsLine s ≡ letters s
+  unfolding turnsLine
+  turns-letters h n = let l : 1 ≤ length s = omega arith in rw (le-leb _ _ h, le-leb _ _ l)
+
+-- ---- Nothing after the line `turns`: t is what is left of s from b on, and e the place of its first line feed
+
+abbrev pub theLine : ℕ → List (List ℕ) → Phase (List Level)
+theLine n ls = one (bytes "turns") turnsLine n ls
+
+module _ {s : List ℕ} {first : ℕ} where
+  pub last-refused : {r n : ℕ} {x : List Level} → Reads theLine s first (Refused r n) x → Reads readTurns s first (Refused r n) x
+  unfolding readTurns
+  last-refused h = record { read = ap nothingAfter (h .read); ahead = tt }
+
+  module _ {n b : ℕ} {x : List Level} (h : Reads theLine s first (Got n b) x) (t : List ℕ) (d : t ≡ drop b s) (e : ℕ) (q : e ≡ find lineFeed t) where
+    pub last-more : e < length t → Reads readTurns s first (Refused 3 n) x
+    unfolding readTurns
+    last-more l =
+        let m : find lineFeed t < length t = omega arith in
+        record { read = rw (← (h .read), ← d, lines-more t m); ahead = tt }
+
+    pub last-none : length t ≤ e → Reads readTurns s first (Got n b) x
+    unfolding readTurns
+    last-none l =
+        let m : length t ≤ find lineFeed t = omega arith in
+        record { read = rw (← (h .read), ← d, lines-none t m); ahead = h .ahead }

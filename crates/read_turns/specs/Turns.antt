@@ -1,0 +1,23 @@
+-- What the readers of the line `turns` answer: s is the text that one is given, and first the number of its first line.
+use mathlib.Core.Path.{_≡_}
+use mathlib.Core.Bool.{Bool, cond}
+use mathlib.Core.List.{List, map}
+use Prim.Native.Nat.{ℕ, _≤_}
+use lib.ListN.{length, take}
+use Rattle.model.specs.Parsed.{got, refused}
+use Rattle.model.specs.Turns.{letter, turnsLine, readTurns}
+use Rattle.model.specs.Stored.{levelOf}
+use Rattle.read_line.specs.Line.{Reads, checkedAs}
+use Rattle.read_turns.specs.declared.Letters.{Letters}
+use Rattle.read_turns.specs.declared.Turns.{Turns}
+
+pub record LetterKnown (b : ℕ) (r : Bool) : Type 0 where
+  pub read : letter b ≡ cond r (got (levelOf b)) (refused 9)
+
+pub record LettersCopied (s : List ℕ) (r : Letters) : Type 0 where
+  pub read : checkedAs (r .checked) (map levelOf (take (r .count) (r .letters))) ≡ turnsLine s
+  pub few : r .count ≤ length (r .letters)
+
+pub record TurnsRead (s : List ℕ) (first : ℕ) (r : Turns) : Type 0 where
+  pub read : Reads readTurns s first (r .phase) (map levelOf (take (r .count) (r .letters)))
+  pub few : r .count ≤ length (r .letters)

@@ -1,0 +1,117 @@
+// The line `turns`, its letters tested and copied in one pass, and nothing after it.
+use model::LETTER_CAPACITY;
+use model::MOST_LETTERS;
+use read_line::Checked;
+use read_line::Found;
+use read_line::Phase;
+use read_line::first_line;
+use read_text::find_byte;
+ghost use Prim.Native.Nat.{_+_, _<_};
+ghost use lib.ListN.{length};
+ghost use Rattle.read_turns.specs.Turns.{LetterKnown, LettersCopied, TurnsRead};
+
+// The first count letters of the array.
+pub struct Turns {
+    pub phase: Phase,
+    pub count: usize,
+    pub letters: [u8; LETTER_CAPACITY],
+}
+
+// The first count letters of the array, where they were read.
+struct Letters {
+    pub checked: Checked,
+    pub count: usize,
+    pub letters: [u8; LETTER_CAPACITY],
+}
+
+fn is_letter(b: u8) -> bool
+    ensures { λ r. ⌜ LetterKnown b r ⌝ }
+{
+    if b == b'L' {
+        return true;
+    }
+    b == b'H'
+}
+
+// What follows `turns=`, copied as it is tested.
+fn copy_letters(s: &[u8]) -> Letters
+    ensures { λ r. ⌜ LettersCopied (now (s .entry)) r ⌝ }
+{
+    let mut letters = [0u8; LETTER_CAPACITY];
+    if MOST_LETTERS < s.len() {
+        return Letters {
+            checked: Checked::Refused(8),
+            count: 0,
+            letters,
+        };
+    }
+    if s.len() == 0 {
+        return Letters {
+            checked: Checked::Refused(9),
+            count: 0,
+            letters,
+        };
+    }
+    let checked: Checked;
+    let mut i = 0;
+    loop {
+        if s.len() <= i {
+            checked = Checked::Got;
+            break;
+        }
+        let b = s[i];
+        if !is_letter(b) {
+            checked = Checked::Refused(9);
+            break;
+        }
+        letters[i] = b;
+        i += 1;
+    }
+    Letters {
+        checked,
+        count: i,
+        letters,
+    }
+}
+
+// The line `turns` at the start of s, and nothing after it.
+pub fn read_turns(s: &[u8], first: u32) -> Turns
+    requires { ⌜ first + length (now s) < 4294967296 ⌝ }
+    ensures { λ r. ⌜ TurnsRead (now (s .entry)) first r ⌝ }
+{
+    match first_line(s, b"turns=") {
+        Found::Other => Turns {
+            phase: Phase::Refused(3, first),
+            count: 0,
+            letters: [0u8; LETTER_CAPACITY],
+        },
+        Found::At(v, e) => {
+            let copied = copy_letters(&s[v..e]);
+            let letters = copied.letters;
+            let count = copied.count;
+            let checked = copied.checked;
+            match checked {
+                Checked::Refused(r) => Turns {
+                    phase: Phase::Refused(r, first),
+                    count,
+                    letters,
+                },
+                Checked::Got => {
+                    let rest = &s[e + 1..];
+                    if find_byte(rest, b'\n') < rest.len() {
+                        return Turns {
+                            phase: Phase::Refused(3, first + 1),
+                            count,
+                            letters,
+                        };
+                    }
+                    Turns {
+                        phase: Phase::Got(first + 1, e + 1),
+                        count,
+                        letters,
+                    }
+                }
+            }
+        }
+    }
+}

@@ -1,0 +1,18 @@
+-- The law of an operation that is done at i64 and clamped, at `_+ℤ_`.
+use borrow.Author.Needs.{needs}
+use lib.IntN.{_+ℤ_}
+use Rattle.model.specs.Arith.{sum}
+use Rattle.run_arith.proofs.Laws.{widens, asked, answered, add-fits}
+use Rattle.run_arith.proofs.add.Statement.{statement}
+use Rattle.run_arith.proofs.add.Tie as tie
+
+pub add-spec : {M : Type 1} → statement M
+unfolding sum
+add-spec =
+    tie.close
+    (tie.spec
+    (λ c. widens (c .fits .a))
+    (λ c. widens (c .fits .b))
+    (λ c. asked _+ℤ_ (c .fits .a) (c .fits .b) (add-fits (c .fits .a) (c .fits .b)))
+    (λ c κs. search needs)
+    (λ c. let f = c .before .fits in answered _+ℤ_ (f .a) (f .b) (add-fits (f .a) (f .b)) (c .clamp .ok) (c .clamp .ensures)))

@@ -1,0 +1,106 @@
+-- The fields that are filled already, at each level, are the first of those that the model fills.
+use mathlib.Core.Path.{_≡_, refl, sym, ap, ap₂, _∙_}
+use mathlib.Core.List.{List, [], _∷_, _++_, map}
+use Prim.Native.Nat.{ℕ, zero, suc, _+_, _≤_, _<_}
+use native.Mathlib.Omega.{arith}
+use native.Mathlib.Nat.{le-of-suc-le-suc, not-suc-le-zero}
+use native.Mathlib.Numerals.{add-one}
+use lib.ListN.{length, getD, take, drop, set, replicate, length-map}
+use lib.Seq.{take-suc, take-suc-set, take-all, map-set-same}
+use Rattle.model.specs.Stored.{keyCapacity, firstOf, keyIn, entryIn, keysIn, side, held, openSlot, absentSlot, absentField}
+use Rattle.model.specs.Message.{shown, fill}
+use Rattle.run_message.specs.Message.{fieldOf, Cleared}
+use Rattle.model.proofs.Stored.{map-set, first-set, first-same, first-at, first-count}
+use Rattle.model.specs.declared.Entry.{Entry}
+use Rattle.model.specs.declared.Entry.the-variants.{Absent, Number}
+use Rattle.model.specs.declared.EntrySlot.{EntrySlot}
+use Rattle.model.specs.declared.Field.{Field}
+use Rattle.model.specs.declared.Key.{Key}
+use Rattle.model.specs.declared.Key.the-variants.{Open, Secret}
+use Rattle.model.specs.declared.KeySlot.{KeySlot}
+use Rattle.model.specs.declared.Level.{Level}
+use Rattle.model.specs.declared.Level.the-variants.{Low, High}
+
+fill-length : (l : Level) (ks : List Key) (es : List Entry) → length (fill l ks es) ≡ length ks
+unfolding fill
+fill-length l [] es = refl
+fill-length l (k ∷ ks) es = ap suc (fill-length l ks (drop 1 es))
+
+getD-tail : {A : Type 0} (s : List A) (k : ℕ) (d : A) → getD (drop 1 s) k d ≡ getD s (suc k) d
+getD-tail [] k d = refl
+getD-tail (x ∷ s) k d = refl
+
+fill-at : (l : Level) (ks : List Key) (es : List Entry) (k : ℕ) → k < length ks → getD (fill l ks es) k Absent ≡ shown l (getD ks k Open) (getD es k Absent)
+unfolding fill
+fill-at l [] es k h = absurd (not-suc-le-zero h)
+fill-at l (x ∷ ks) es zero h = refl
+fill-at l (x ∷ ks) es (suc k) h = fill-at l ks (drop 1 es) k (le-of-suc-le-suc h) ∙ ap (shown l (getD ks k Open)) (getD-tail es k Absent)
+
+side-field : (l : Level) (k : Key) (e : Entry) → side l (fieldOf k e) ≡ shown l k e
+side-field Low k e = refl
+side-field High k e = refl
+
+-- the two cases of a key
+pub field-open : (e : Entry) → record { low = e; high = e } ≡ fieldOf Open e
+unfolding shown
+field-open e = refl
+
+pub field-secret : (d : _) (e : Entry) → record { low = Number d; high = e } ≡ fieldOf (Secret d) e
+unfolding shown
+field-secret d e = refl
+
+module _ (n : ℕ) (ss : List KeySlot) (ts : List EntrySlot) (keys : n ≤ length ss) where
+  abbrev ks : List Key
+  ks = keysIn n ss
+
+  abbrev es : List Entry
+  es = firstOf entryIn n ts
+
+  keys-count : length ks ≡ n
+  keys-count = first-count keyIn n ss keys
+
+  -- one field more, at a level
+  pub filled-more : (l : Level) (m : List Field) (k : ℕ) (f : Field) → k < n → k < length m → f ≡ fieldOf (getD ss k openSlot .key) (getD ts k absentSlot .entry)
+      → firstOf (side l) k m ≡ take k (fill l ks es) → firstOf (side l) (k + 1) (set m k f) ≡ take (k + 1) (fill l ks es)
+  filled-more l m k f h g e before =
+      let w : List Entry = fill l ks es in
+      let below : k < length w = omega (arith, fill-length l ks es, keys-count) in
+      let key = first-at keyIn n ss k openSlot h in
+      let entry = first-at entryIn n ts k absentSlot h in
+      let here : side l f ≡ getD w k Absent =
+      ap (side l) e
+      ∙ side-field l (getD ss k openSlot .key) (getD ts k absentSlot .entry)
+      ∙ ap₂ (shown l) (sym key) (sym entry)
+      ∙ sym (fill-at l ks es k (omega (arith, keys-count))) in
+      ap (λ (i : ℕ). take i (map (side l) (set m k f))) (add-one k)
+      ∙ ap (take (suc k)) (map-set (side l) m k f)
+      ∙ take-suc-set (map (side l) m) k (side l f) (omega (arith, length-map m (side l)))
+      ∙ ap₂ (λ (xs : List Entry) (x : Entry). xs ++ (x ∷ [])) before here
+      ∙ sym (take-suc w k Absent below)
+      ∙ ap (λ (i : ℕ). take i w) (sym (add-one k))
+
+  -- all of them
+  pub filled-all : (m : List Field) (k : ℕ) → k ≡ n → ((l : Level) → firstOf (side l) k m ≡ take k (fill l ks es)) → (l : Level) → held n m l ≡ fill l ks es
+  unfolding held
+  filled-all m k e h l =
+      ap (λ (i : ℕ). firstOf (side l) i m) (sym e)
+      ∙ h l
+      ∙ ap (λ (i : ℕ). take i (fill l ks es)) e
+      ∙ take-all n (fill l ks es) (omega (arith, fill-length l ks es, keys-count))
+
+-- ---- No line left
+
+pub cleared-held : (n : ℕ) (m : List Field) → n ≤ keyCapacity → Cleared m → (l : Level) → held n m l ≡ replicate n Absent
+unfolding held
+cleared-held n m h e Low = rw e (first-same (side Low) n keyCapacity absentField h)
+cleared-held n m h e High = rw e (first-same (side High) n keyCapacity absentField h)
+
+-- ---- One field changed
+
+pub held-set : (n : ℕ) (m : List Field) (l : Level) (k : ℕ) (f : Field) → k < n → held n (set m k f) l ≡ set (held n m l) k (side l f)
+unfolding held
+held-set n m l k f h = first-set (side l) n m k f h
+
+pub held-same : (n : ℕ) (m : List Field) (l : Level) (k : ℕ) (f d : Field) → side l f ≡ side l (getD m k d) → held n (set m k f) l ≡ held n m l
+unfolding held
+held-same n m l k f d e = ap (take n) (map-set-same (side l) m k f d e)

@@ -1,0 +1,126 @@
+-- The parts of a sent line, placed one after the other.
+use mathlib.Core.Path.{_≡_, refl, sym, ap, ap₂, _∙_}
+use mathlib.Core.List.{List, [], _∷_, _++_, append-assoc}
+use Prim.Native.Nat.{ℕ, zero, suc, _+_, _-_, _*_, _≤_, _<_}
+use native.Mathlib.Omega.{arith}
+use native.Mathlib.Nat.{le-of-suc-le-suc, not-suc-le-zero, add-zero, zero-add}
+use native.Mathlib.Numerals.{add-one}
+use lib.ListN.{length, getD, drop, set, replicate, length-append, length-set, drop-of-length-le}
+use lib.Seq.{drop-cons}
+use Rattle.model.specs.Text.{lineFeed, space, dot}
+use Rattle.model.specs.Stored.{keyIn, keysIn, side, held, openSlot, absentField}
+use Rattle.model.specs.Message.{source, columns}
+use Rattle.model.specs.Output.{cell, cells, heading, lineBytes}
+use Rattle.model.specs.declared.Entry.{Entry}
+use Rattle.model.specs.declared.Entry.the-variants.{Absent}
+use Rattle.model.specs.declared.Field.{Field}
+use Rattle.model.specs.declared.Key.{Key}
+use Rattle.model.specs.declared.Key.the-variants.{Open}
+use Rattle.model.specs.declared.KeySlot.{KeySlot}
+use Rattle.model.specs.declared.Level.{Level}
+use Rattle.model.specs.declared.Level.the-variants.{Low, High}
+use Rattle.model.proofs.Output.{cell-length, cells-length, heading-length}
+use Rattle.model.proofs.Stored.{first-at, first-count}
+use Rattle.write_line.specs.Placed.{placed}
+use Rattle.write_line.specs.Line.{columnsIn, lineOf}
+use Rattle.write_line.proofs.Places.{placed-append, placed-nil, placed-cons, placed-next, placed-length}
+
+-- a dot stored
+pub dots-turn : (out : List ℕ) (p n : ℕ) → p < length out → 0 < n → placed (set out p dot) (p + 1) (replicate (n - 1) dot) ≡ placed out p (replicate n dot)
+dots-turn out p n h some =
+    let e : suc (n - 1) ≡ n = omega arith in
+    placed-cons out p dot (replicate (n - 1) dot) h ∙ ap (λ (m : ℕ). placed out p (replicate m dot)) e
+
+pub dots-end : (out : List ℕ) (p n : ℕ) → n ≡ 0 → placed out p (replicate n dot) ≡ out
+dots-end out p n none = ap (λ (m : ℕ). placed out p (replicate m dot)) none ∙ placed-nil out p
+
+-- ---- The columns
+
+pub columns-length : (i : ℕ) (ks : List Key) (f : Level → List Entry) → length (columns i ks f) ≡ length ks
+unfolding columns
+columns-length i [] f = refl
+columns-length i (k ∷ ks) f = ap suc (columns-length (suc i) ks f)
+
+-- the column of a key
+column-at : (i : ℕ) (ks : List Key) (f : Level → List Entry) (k : ℕ) → k < length ks → getD (columns i ks f) k Absent ≡ getD (f (source (getD ks k Open))) (i + k) Absent
+unfolding columns
+column-at i [] f k h = absurd (not-suc-le-zero h)
+column-at i (x ∷ ks) f zero h = ap (λ (n : ℕ). getD (f (source x)) n Absent) (sym (add-zero i))
+column-at i (x ∷ ks) f (suc k) h = column-at (suc i) ks f k (le-of-suc-le-suc h) ∙ ap (λ (n : ℕ). getD (f (source (getD ks k Open))) n Absent) (omega arith)
+
+pub held-at : (n : ℕ) (m : List Field) (l : Level) (k : ℕ) → k < n → getD (held n m l) k Absent ≡ side l (getD m k absentField)
+unfolding held
+held-at n m Low k h = first-at (side Low) n m k absentField h
+held-at n m High k h = first-at (side High) n m k absentField h
+
+module _ (n : ℕ) (ss : List KeySlot) (m : List Field) (enough : n ≤ length ss) where
+  keys-count : length (keysIn n ss) ≡ n
+  keys-count = first-count keyIn n ss enough
+
+  pub columns-count : length (columnsIn n ss m) ≡ n
+  columns-count = columns-length 0 (keysIn n ss) (held n m) ∙ keys-count
+
+  -- the column of a key is the field of its source
+  pub columns-at : (k : ℕ) → k < n → getD (columnsIn n ss m) k Absent ≡ side (source (getD ss k openSlot .key)) (getD m k absentField)
+  columns-at k h =
+      column-at 0 (keysIn n ss) (held n m) k (omega (arith, keys-count))
+      ∙ ap (λ (i : ℕ). getD (held n m (source (getD (keysIn n ss) k Open))) i Absent) (zero-add k)
+      ∙ ap (λ (x : Key). getD (held n m (source x)) k Absent) (first-at keyIn n ss k openSlot h)
+      ∙ held-at n m (source (getD ss k openSlot .key)) k h
+
+-- what stands after a key's column, once the column is placed
+module _ (out : List ℕ) (p : ℕ) (es : List Entry) (k : ℕ) where
+  cells-at : k < length es → cells (drop k es) ≡ (space ∷ cell (getD es k Absent)) ++ cells (drop (k + 1) es)
+  unfolding cells
+  cells-at h = rw (add-one, drop-cons es k Absent h)
+
+  pub cells-again : (o : List ℕ) (e : Entry) → k < length es → p + 12 ≤ length out → e ≡ getD es k Absent → o ≡ placed out p (space ∷ cell e)
+      → placed o (p + 12) (cells (drop (k + 1) es)) ≡ placed out p (cells (drop k es))
+  cells-again o e h room ee eo =
+      let rest = cells (drop (k + 1) es) in
+      let n : length (space ∷ cell e) ≡ 12 = ap suc (cell-length e) in
+      ap₂ (λ (l : List ℕ) (q : ℕ). placed l (p + q) rest) eo (sym n)
+      ∙ placed-append out p (space ∷ cell e) (omega arith) rest
+      ∙ ap (λ (z : Entry). placed out p ((space ∷ cell z) ++ rest)) ee
+      ∙ ap (placed out p) (sym (cells-at h))
+
+  pub cells-end : length es ≤ k → placed out p (cells (drop k es)) ≡ out
+  unfolding cells
+  cells-end h = ap (λ (l : List Entry). placed out p (cells l)) (drop-of-length-le es h) ∙ placed-nil out p
+
+-- ---- The line
+
+-- five bytes stored, and a list placed after them
+pub five-placed : (out : List ℕ) (at a b c d e : ℕ) (s : List ℕ) → at + 5 ≤ length out
+    → placed (set (set (set (set (set out at a) (at + 1) b) (at + 2) c) (at + 3) d) (at + 4) e) (at + 5) s ≡ placed out at (a ∷ b ∷ c ∷ d ∷ e ∷ s)
+five-placed out at a b c d e s h =
+    let o1 = set out at a in
+    let o2 = set o1 (at + 1) b in
+    let o3 = set o2 (at + 2) c in
+    let o4 = set o3 (at + 3) d in
+    placed-next o4 (at + 4) (at + 5) e s (omega arith) (simp length-set (omega arith))
+    ∙ placed-next o3 (at + 3) (at + 4) d (e ∷ s) (omega arith) (simp length-set (omega arith))
+    ∙ placed-next o2 (at + 2) (at + 3) c (d ∷ e ∷ s) (omega arith) (simp length-set (omega arith))
+    ∙ placed-next o1 (at + 1) (at + 2) b (c ∷ d ∷ e ∷ s) (omega arith) (simp length-set (omega arith))
+    ∙ placed-cons out at a (b ∷ c ∷ d ∷ e ∷ s) (omega arith)
+
+-- the heading, the cells and the line feed make the line
+pub line-written : (out h o : List ℕ) (at n keys : ℕ) (es : List Entry) → length es ≡ keys → at + (10 + 12 * keys) ≤ length out
+    → h ≡ placed out at (heading n) → o ≡ placed h (at + 9) (cells es) → set o (at + 9 + 12 * keys) lineFeed ≡ placed out at (lineBytes (lineOf n es))
+unfolding lineBytes
+line-written out h o at n keys es e room eh eo =
+    let hs : List ℕ = heading n in
+    let cs : List ℕ = cells es in
+    let end = at + 9 + 12 * keys in
+    let hl : length hs ≡ 9 = heading-length n in
+    let cl : length cs ≡ 12 * keys = cells-length es ∙ ap (λ (k : ℕ). 12 * k) e in
+    let first = ap₂ (λ (l : List ℕ) (q : ℕ). placed l (at + q) cs) eh (sym hl) in
+    let both : o ≡ placed out at (hs ++ cs) = eo ∙ first ∙ placed-append out at hs (omega arith) cs in
+    let whole : length (hs ++ cs) ≡ 9 + 12 * keys = omega (arith, length-append hs cs) in
+    let same : length o ≡ length out = ap length both ∙ placed-length out at (hs ++ cs) (omega arith) in
+    let q : end ≡ at + length (hs ++ cs) = omega arith in
+    sym (placed-nil _ (end + 1))
+    ∙ placed-cons o end lineFeed [] (omega arith)
+    ∙ ap₂ (λ (l : List ℕ) (i : ℕ). placed l i (lineFeed ∷ [])) both q
+    ∙ placed-append out at (hs ++ cs) (omega arith) (lineFeed ∷ [])
+    ∙ ap (placed out at) (append-assoc hs cs (lineFeed ∷ []))

@@ -1,0 +1,4 @@
+-- The laws of what is written into a memory.
+pub mod Signs
+pub mod Places
+pub mod Laws

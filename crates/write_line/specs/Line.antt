@@ -1,0 +1,22 @@
+-- A sent line, of what the code's arrays hold.
+use Prim.Native.Nat.{ℕ, _+_, _≤_}
+use mathlib.Core.List.{List}
+use lib.ListN.{length}
+use Rattle.model.specs.Message.{columns}
+use Rattle.model.specs.State.{Sent}
+use Rattle.model.specs.Stored.{keyCapacity, keysIn, held}
+use Rattle.model.specs.declared.Entry.{Entry}
+use Rattle.model.specs.declared.Field.{Field}
+use Rattle.model.specs.declared.KeySlot.{KeySlot}
+
+-- the entry of each of n keys
+abbrev pub columnsIn : ℕ → List KeySlot → List Field → List Entry
+columnsIn n secrets message = columns 0 (keysIn n secrets) (held n message)
+
+abbrev pub lineOf : ℕ → List Entry → Sent
+lineOf n es = record { position = n; columns = es }
+
+-- what a caller shows who lends the memory for so many bytes
+pub record Roomy (bytes at keys : ℕ) (out : List ℕ) : Type 0 where
+  pub few : keys ≤ keyCapacity
+  pub room : at + bytes ≤ length out

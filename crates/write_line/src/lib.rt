@@ -1,0 +1,148 @@
+// The bytes of a sent line, written into the output memory.
+use model::Entry;
+use model::Field;
+use model::KEY_CAPACITY;
+use model::Key;
+use model::KeySlot;
+ghost use mathlib.Core.Path.{_≡_};
+ghost use mathlib.Core.List.{_∷_};
+ghost use Prim.Native.Nat.{_+_, _*_, _≤_, _<_};
+ghost use lib.ListN.{length, replicate};
+ghost use lib.IntN.{natAbs};
+ghost use Rattle.model.specs.Text.{space, dot};
+ghost use Rattle.model.specs.Message.{source};
+ghost use Rattle.model.specs.Output.{digits, sign as Output·sign, cell as Output·cell, cells as Output·cells, heading as Output·heading, lineBytes};
+ghost use Rattle.model.specs.Stored.{side};
+ghost use Rattle.write_line.specs.Placed.{placed};
+ghost use Rattle.write_line.specs.Line.{columnsIn, lineOf, Roomy};
+
+fn sign(x: i32) -> u8
+    ensures { λ r. ⌜ r ≡ Output·sign x ⌝ }
+{
+    if x < 0 { b'-' } else { b'+' }
+}
+
+fn magnitude(x: i32) -> u32
+    ensures { λ r. ⌜ r ≡ natAbs x ⌝ }
+{
+    if x < 0 { (-1 - x) as u32 + 1 } else { x as u32 }
+}
+
+// Puts the last width digits of n at the place at of out.
+fn spell(out: &mut [u8], at: usize, width: usize, n: u32)
+    requires { ⌜ at + width ≤ length (now out) ⌝ }
+    ensures { λ _. ⌜ now (out .exit) ≡ placed (now (out .entry)) at (digits width n) ⌝ }
+{
+    let mut i: usize = width;
+    let mut rest = n;
+    while i > 0 {
+        i -= 1;
+        out[at + i] = b'0' + (rest % 10) as u8;
+        rest /= 10;
+    }
+}
+
+// A sign and ten digits.
+fn print(out: &mut [u8], at: usize, x: i32)
+    requires { ⌜ at + 11 ≤ length (now out) ⌝ }
+    ensures { λ _. ⌜ now (out .exit) ≡ placed (now (out .entry)) at (Output·sign x ∷ digits 10 (natAbs x)) ⌝ }
+{
+    out[at] = sign(x);
+    spell(out, at + 1, 10, magnitude(x));
+}
+
+fn dots(out: &mut [u8], at: usize)
+    requires { ⌜ at + 11 ≤ length (now out) ⌝ }
+    ensures { λ _. ⌜ now (out .exit) ≡ placed (now (out .entry)) at (replicate 11 dot) ⌝ }
+{
+    let mut p = at;
+    let mut more: usize = 11;
+    while more > 0 {
+        out[p] = b'.';
+        p += 1;
+        more -= 1;
+    }
+}
+
+fn cell(out: &mut [u8], at: usize, e: Entry)
+    requires { ⌜ at + 11 ≤ length (now out) ⌝ }
+    ensures { λ _. ⌜ now (out .exit) ≡ placed (now (out .entry)) at (Output·cell e) ⌝ }
+{
+    match e {
+        Entry::Absent => dots(out, at),
+        Entry::Number(x) => print(out, at, x),
+    }
+}
+
+// A space and a cell.
+fn spaced_cell(out: &mut [u8], at: usize, e: Entry)
+    requires { ⌜ at + 12 ≤ length (now out) ⌝ }
+    ensures { λ _. ⌜ now (out .exit) ≡ placed (now (out .entry)) at (space ∷ Output·cell e) ⌝ }
+{
+    out[at] = b' ';
+    cell(out, at + 1, e);
+}
+
+// The field that goes into a key's column.
+fn column(key: Key, f: Field) -> Entry
+    ensures { λ r. ⌜ r ≡ side (source key) f ⌝ }
+{
+    let low = f.low;
+    let high = f.high;
+    match key {
+        Key::Open => low,
+        Key::Secret(_) => high,
+    }
+}
+
+fn cells(
+    out: &mut [u8],
+    at: usize,
+    keys: usize,
+    secrets: [KeySlot; KEY_CAPACITY],
+    message: [Field; KEY_CAPACITY],
+)
+    requires { ⌜ Roomy (12 * keys) at keys (now out) ⌝ }
+    ensures { λ _. ⌜ now (out .exit) ≡ placed (now (out .entry)) at (Output·cells (columnsIn keys secrets message)) ⌝ }
+{
+    let mut p = at;
+    let mut k: usize = 0;
+    while k < keys {
+        let s = secrets[k];
+        let key = s.key;
+        let f = message[k];
+        let e = column(key, f);
+        spaced_cell(out, p, e);
+        p += 12;
+        k += 1;
+    }
+}
+
+fn heading(out: &mut [u8], at: usize, position: usize)
+    requires { ⌜ (at + 9 ≤ length (now out)) × (position < 10000) ⌝ }
+    ensures { λ _. ⌜ now (out .exit) ≡ placed (now (out .entry)) at (Output·heading position) ⌝ }
+{
+    out[at] = b's';
+    out[at + 1] = b'e';
+    out[at + 2] = b'n';
+    out[at + 3] = b't';
+    out[at + 4] = b'=';
+    spell(out, at + 5, 4, position as u32);
+}
+
+// Writes the line that a send at the position makes of the message, at the place at of out.
+pub fn write_line(
+    out: &mut [u8],
+    at: usize,
+    position: usize,
+    keys: usize,
+    secrets: [KeySlot; KEY_CAPACITY],
+    message: [Field; KEY_CAPACITY],
+)
+    requires { ⌜ (position < 10000) × Roomy (10 + 12 * keys) at keys (now out) ⌝ }
+    ensures { λ _. ⌜ now (out .exit) ≡ placed (now (out .entry)) at (lineBytes (lineOf position (columnsIn keys secrets message))) ⌝ }
+{
+    heading(out, at, position);
+    cells(out, at + 9, keys, secrets, message);
+    out[at + 9 + 12 * keys] = b'\n';
+}
