@@ -24,15 +24,7 @@ use Rattle.model.specs.Phase.{Phase, after, one, many, oneMore, some, nu
 use Rattle.model.specs.Sheet.{Reading, accepted, next, targets, readBody, readLines, forbiddenLine, closed, readSheet}
 use Rattle.model.specs.Program.{readCommands}
 use Rattle.model.specs.Accepted.{rowFor, ordinal, has, kept, Bare, InRange, KeyInRange, EntryInRange, Within, Every, Full, Sound, AcceptedSound, KeysRise}
-use Rattle.model.specs.declared.Entry.{Entry}
-use Rattle.model.specs.declared.Entry.the-variants.{Absent, Number}
-use Rattle.model.specs.declared.Key.{Key}
-use Rattle.model.specs.declared.Key.the-variants.{Open, Secret}
-use Rattle.model.specs.declared.Command.{Command}
-use Rattle.model.specs.declared.Op.{Op}
-use Rattle.model.specs.declared.Operand.{Operand}
-use Rattle.model.specs.declared.Operand.the-variants.{InV, InW, InK, InT, InN}
-use Rattle.model.specs.declared.Level.{Level}
+use Rattle.model.specs.Data.{Entry, Absent, Number, Key, Open, Secret, Op, Command, Operand, InV, InW, InK, InT, InN, Level}
 
 -- ---- Choices
 

@@ -15,15 +15,7 @@ use Rattle.model.specs.Message.{takes, receive, columns, send}
 use Rattle.model.specs.Output.{lineLength}
 use Rattle.model.specs.Verdict.{written, short, noRoom, verdictBy, verdict}
 use Rattle.model.specs.Counted.{lows, Counted}
-use Rattle.model.specs.declared.Entry.{Entry}
-use Rattle.model.specs.declared.Command.{Command}
-use Rattle.model.specs.declared.Call.{Call}
-use Rattle.model.specs.declared.Call.the-variants.{Neither, Receives, Sends}
-use Rattle.model.specs.declared.Level.{Level}
-use Rattle.model.specs.declared.Level.the-variants.{Low, High}
-use Rattle.model.specs.declared.Key.{Key}
-use Rattle.model.specs.declared.Ending.{Ending}
-use Rattle.model.specs.declared.Ending.the-variants.{Stopped, LettersUsed, NoRoom}
+use Rattle.model.specs.Data.{Entry, Key, Command, Call, Neither, Receives, Sends, Level, Low, High, Ending, Stopped, LettersUsed, NoRoom}
 use Rattle.model.proofs.Accepted.{every-snoc}
 use Rattle.model.proofs.Output.{Lined, bytes-length}
 

@@ -11,19 +11,7 @@ use Rattle.model.specs.State.{Process, Processes, Sent, Common, State, f
 use Rattle.model.specs.Run.{Outcome, share, counted, lead, followed, follow, turn, ended, settle, run, initial}
 use Rattle.model.specs.Message.{shown, source, fill, takes, received, receive, columns, send}
 use Rattle.model.specs.Verdict.{written, noRoom, verdict}
-use Rattle.model.specs.declared.Entry.{Entry}
-use Rattle.model.specs.declared.Entry.the-variants.{Absent}
-use Rattle.model.specs.declared.Command.{Command}
-use Rattle.model.specs.declared.Call.{Call}
-use Rattle.model.specs.declared.Call.the-variants.{Neither, Receives, Sends}
-use Rattle.model.specs.declared.Level.{Level}
-use Rattle.model.specs.declared.Level.the-variants.{Low, High}
-use Rattle.model.specs.declared.Key.{Key}
-use Rattle.model.specs.declared.Key.the-variants.{Open, Secret}
-use Rattle.model.specs.declared.Ending.{Ending}
-use Rattle.model.specs.declared.Ending.the-variants.{LettersUsed}
-use Rattle.model.specs.declared.Verdict.{Verdict}
-use Rattle.model.specs.declared.Verdict.the-variants.{GoesOn, Ends}
+use Rattle.model.specs.Data.{Entry, Absent, Key, Open, Secret, Command, Call, Neither, Receives, Sends, Level, Low, High, Ending, LettersUsed, Verdict, GoesOn, Ends}
 
 -- ---- The laws of levels: all that depends on how many there are
 

@@ -15,11 +15,7 @@ use Rattle.model.specs.State.{Sent}
 use Rattle.model.specs.Message.{source}
 use Rattle.model.specs.Output.{digits, cell, cells, heading, lineBytes, lineLength, bytesOf}
 use Rattle.model.specs.Accepted.{Every}
-use Rattle.model.specs.declared.Entry.{Entry}
-use Rattle.model.specs.declared.Entry.the-variants.{Absent, Number}
-use Rattle.model.specs.declared.Level.{Level}
-use Rattle.model.specs.declared.Key.{Key}
-use Rattle.model.specs.declared.Key.the-variants.{Open}
+use Rattle.model.specs.Data.{Entry, Absent, Number, Key, Open, Level}
 use Rattle.model.proofs.Lockstep.{Agree, done, next, LinesAgree, SentLike, none, more}
 
 -- ---- Lengths

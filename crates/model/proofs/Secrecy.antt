@@ -12,14 +12,7 @@ use Rattle.model.specs.Message.{source}
 use Rattle.model.specs.Output.{lineLength, bytesOf, memoryAfter}
 use Rattle.model.specs.Answer.{leftBy, numbersOf, runSheet}
 use Rattle.model.specs.Secrecy.{OwnedBy, Hidden, Indistinguishable, SecrecyOf, SheetSecrecyOf}
-use Rattle.model.specs.declared.Entry.{Entry}
-use Rattle.model.specs.declared.Level.{Level}
-use Rattle.model.specs.declared.Level.the-variants.{Low, High}
-use Rattle.model.specs.declared.Key.{Key}
-use Rattle.model.specs.declared.Key.the-variants.{Open, Secret}
-use Rattle.model.specs.declared.Counts.{Counts}
-use Rattle.model.specs.declared.Ending.{Ending}
-use Rattle.model.specs.declared.Answer.the-variants.{Ended}
+use Rattle.model.specs.Data.{Entry, Key, Open, Secret, Level, Low, High, Ending, Counts, Ended}
 use Rattle.model.proofs.Lockstep.{LineLike, RestLike, Same, run-alike, initial-alike, low≢high}
 use Rattle.model.proofs.Output.{split, bytes-at}
 use Rattle.model.proofs.Counted.{counts-of}

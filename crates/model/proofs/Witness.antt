@@ -11,10 +11,7 @@ use Rattle.model.specs.Answer.{runSheet}
 use Rattle.model.specs.Secrecy.{OwnedBy, Alike, Indistinguishable}
 use Rattle.model.specs.Accepted.{rowFor, has, kept}
 use Rattle.model.specs.Witness.{keysA, sheet2, sheet3, job2, job3, lent, HiddenAt, Telling, BoundsReached, StopHasNoTarget}
-use Rattle.model.specs.declared.Command.{Command}
-use Rattle.model.specs.declared.Entry.the-variants.{Absent}
-use Rattle.model.specs.declared.Key.the-variants.{Open}
-use Rattle.model.specs.declared.Level.the-variants.{High}
+use Rattle.model.specs.Data.{Absent, Open, Command, High}
 use Rattle.model.proofs.Examples.{opened}
 use Rattle.model.proofs.Secrecy.{secrecy, sheet-secrecy}
 

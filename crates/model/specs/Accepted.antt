@@ -13,15 +13,8 @@ use Rattle.model.specs.Job.{Job}
 use Rattle.model.specs.Sheet.{accepted, readSheet}
 use Rattle.model.specs.Parsed.{got}
 use Rattle.model.specs.Pair.{pair}
-use Rattle.model.specs.declared.Key.{Key}
-use Rattle.model.specs.declared.Key.the-variants.{Open, Secret}
-use Rattle.model.specs.declared.Entry.{Entry}
-use Rattle.model.specs.declared.Entry.the-variants.{Absent, Number}
-use Rattle.model.specs.declared.Command.{Command}
-use Rattle.model.specs.declared.Op.{Op}
-use Rattle.model.specs.declared.Op.the-variants.{Set, Add, Sub, Mul, Div, Read, Has, Put, Drop, IfNeg, IfZero, Jump, Receive, Send, Stop}
-use Rattle.model.specs.declared.Operand.{Operand}
-use Rattle.model.specs.declared.Operand.the-variants.{InV, InW, InK, InT, InN}
+use Rattle.model.specs.Data.{Entry, Absent, Number, Key, Open, Secret, Op, Set, Add, Sub, Mul, Div, Read, Has, Put, Drop, IfNeg, IfZero, Jump, Receive, Send, Stop, Command}
+use Rattle.model.specs.Data.{Operand, InV, InW, InK, InT, InN}
 
 -- "from -2147483648 to 2147483647": `mag` of a number n is n, and of -(n + 1) it is n too
 abbrev pub InRange : ℤ → Type 0

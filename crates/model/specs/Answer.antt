@@ -8,10 +8,7 @@ use Rattle.model.specs.Text.{bytes, lineFeed, space, zeroDigit}
 use Rattle.model.specs.Run.{Outcome, runJob}
 use Rattle.model.specs.Output.{memoryAfter}
 use Rattle.model.specs.Sheet.{Reading, refused, accepted, readSheet}
-use Rattle.model.specs.declared.Ending.{Ending}
-use Rattle.model.specs.declared.Ending.the-variants.{Stopped, LettersUsed, NoRoom}
-use Rattle.model.specs.declared.Answer.{Answer}
-use Rattle.model.specs.declared.Answer.the-variants.{Ended, Refused}
+use Rattle.model.specs.Data.{Ending, Stopped, LettersUsed, NoRoom, Answer, Ended, Refused}
 
 -- the number of an ending, "From the state"
 abbrev pub endingNumber : Ending → ℕ

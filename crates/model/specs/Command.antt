@@ -10,11 +10,7 @@ use Rattle.model.specs.Text.{bytes, same, split, space}
 use Rattle.model.specs.Limits.{variables}
 use Rattle.model.specs.Parsed.{Parsed, got, _>>=_, refused}
 use Rattle.model.specs.Number.{upTo, number}
-use Rattle.model.specs.declared.Op.{Op}
-use Rattle.model.specs.declared.Operand.{Operand}
-use Rattle.model.specs.declared.Op.the-variants.{Set, Add, Sub, Mul, Div, Read, Has, Put, Drop, IfNeg, IfZero, Jump, Receive, Send, Stop}
-use Rattle.model.specs.declared.Operand.the-variants.{InV, InW, InK, InT, InN}
-use Rattle.model.specs.declared.Command.{Command}
+use Rattle.model.specs.Data.{Op, Set, Add, Sub, Mul, Div, Read, Has, Put, Drop, IfNeg, IfZero, Jump, Receive, Send, Stop, Command, Operand, InV, InW, InK, InT, InN}
 
 -- A row of the table: the word, its meaning's name, and what its parts are, from left to right
 pub record Row : Type 0 where

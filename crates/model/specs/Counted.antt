@@ -6,8 +6,7 @@ use lib.ListN.{length, take}
 use Rattle.model.specs.Job.{Job}
 use Rattle.model.specs.Output.{bytesOf}
 use Rattle.model.specs.Run.{runJob}
-use Rattle.model.specs.declared.Level.{Level}
-use Rattle.model.specs.declared.Level.the-variants.{Low, High}
+use Rattle.model.specs.Data.{Level, Low, High}
 
 -- the L letters of a list
 unfoldable pub lows : List Level → ℕ

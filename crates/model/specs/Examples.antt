@@ -8,9 +8,7 @@ use lib.ListN.{replicate}
 use Rattle.model.specs.Step.{variable, does}
 use Rattle.model.specs.Text.{bytes}
 use Rattle.model.specs.Answer.{printed}
-use Rattle.model.specs.declared.Op.{Op}
-use Rattle.model.specs.declared.Entry.the-variants.{Absent}
-use Rattle.model.specs.declared.Op.the-variants.{Add, Div}
+use Rattle.model.specs.Data.{Absent, Op, Add, Div}
 
 -- An example: a sheet, run with so many bytes lent, prints a text; a command on two numbers gives a third
 pub data Example : Type 0 where

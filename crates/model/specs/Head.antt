@@ -7,8 +7,7 @@ use Rattle.model.specs.Text.{bytes}
 use Rattle.model.specs.Phase.{Phase, one, many}
 use Rattle.model.specs.Limits.{mostKeys}
 use Rattle.model.specs.Pair.{ByKey, everywhere, part}
-use Rattle.model.specs.declared.Key.{Key}
-use Rattle.model.specs.declared.Key.the-variants.{Open, Secret}
+use Rattle.model.specs.Data.{Key, Open, Secret}
 
 -- "`sheet=1`, once." Refusal 4 names "the 1 of `sheet`".
 unfoldable pub sheetLine : List ℕ → Parsed ℕ

@@ -1,9 +1,6 @@
 -- A job: what an accepted sheet says.
 use mathlib.Core.List.{List}
-use Rattle.model.specs.declared.Entry.{Entry}
-use Rattle.model.specs.declared.Key.{Key}
-use Rattle.model.specs.declared.Command.{Command}
-use Rattle.model.specs.declared.Level.{Level}
+use Rattle.model.specs.Data.{Entry, Key, Command, Level}
 
 -- The keys 0 to K-1, each open or secret with its dummy; the commands, numbered from 0; the message lines, each with an entry for every key;
 -- the letters of `turns`

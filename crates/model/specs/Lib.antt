@@ -1,4 +1,5 @@
 -- Document 01 as definitions, in its order; then what is claimed of them.
+pub mod Data
 pub mod Limits
 pub mod Parsed
 pub mod Text

@@ -3,12 +3,7 @@ use mathlib.Core.List.{List, [], _∷_, _++_}
 use lib.ListN.{getD, drop, length, replicate}
 use Prim.Native.Nat.{_+_, ℕ, suc}
 use Rattle.model.specs.State.{Common, refill, State, each, fieldsOf}
-use Rattle.model.specs.declared.Entry.{Entry}
-use Rattle.model.specs.declared.Entry.the-variants.{Number, Absent}
-use Rattle.model.specs.declared.Level.{Level}
-use Rattle.model.specs.declared.Level.the-variants.{Low, High}
-use Rattle.model.specs.declared.Key.{Key}
-use Rattle.model.specs.declared.Key.the-variants.{Open, Secret}
+use Rattle.model.specs.Data.{Entry, Absent, Number, Key, Open, Secret, Level, Low, High}
 
 -- ---- `receive`
 

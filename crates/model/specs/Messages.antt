@@ -6,8 +6,7 @@ use Rattle.model.specs.Pair.{ByKey, part, everywhere}
 use Rattle.model.specs.Text.{split, comma, bytes}
 use Rattle.model.specs.Limits.{mostMessages}
 use Rattle.model.specs.Phase.{Phase, many, oneMore}
-use Rattle.model.specs.declared.Entry.{Entry}
-use Rattle.model.specs.declared.Entry.the-variants.{Number, Absent}
+use Rattle.model.specs.Data.{Entry, Absent, Number}
 
 -- "Parts run from left to right."
 unfoldable pub parts : ℕ → ByKey Entry → List (List ℕ) → Parsed (ByKey Entry)

@@ -7,9 +7,7 @@ use lib.Signed.{nonNeg}
 use lib.ListN.{replicate, length, drop}
 use Rattle.model.specs.Text.{bytes, lineFeed, space, plus, minus, dot, zeroDigit}
 use Rattle.model.specs.State.{Sent}
-use Rattle.model.specs.declared.Entry.{Entry}
-use Rattle.model.specs.declared.Entry.the-variants.{Absent, Number}
-use Rattle.model.specs.declared.Key.{Key}
+use Rattle.model.specs.Data.{Entry, Absent, Number, Key}
 
 -- the last w decimal digits of a number
 unfoldable pub digits : ℕ → ℕ → List ℕ

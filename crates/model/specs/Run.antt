@@ -8,19 +8,7 @@ use Rattle.model.specs.Message.{receive, send}
 use Rattle.model.specs.Step.{callOf, begun}
 use Rattle.model.specs.Verdict.{written, verdict, idles}
 use Rattle.model.specs.Job.{Job}
-use Rattle.model.specs.declared.Call.{Call}
-use Rattle.model.specs.declared.Call.the-variants.{Neither, Receives, Sends}
-use Rattle.model.specs.declared.Key.{Key}
-use Rattle.model.specs.declared.Command.{Command}
-use Rattle.model.specs.declared.Level.the-variants.{Low, High}
-use Rattle.model.specs.declared.Level.{Level}
-use Rattle.model.specs.declared.Ending.{Ending}
-use Rattle.model.specs.declared.Counts.{Counts}
-use Rattle.model.specs.declared.Verdict.{Verdict}
-use Rattle.model.specs.declared.Verdict.the-variants.{GoesOn, Ends}
-use Rattle.model.specs.declared.Ending.the-variants.{LettersUsed}
-use Rattle.model.specs.declared.Entry.the-variants.{Absent}
-use Rattle.model.specs.declared.Entry.{Entry}
+use Rattle.model.specs.Data.{Entry, Absent, Key, Command, Call, Neither, Receives, Sends, Level, Low, High, Ending, LettersUsed, Verdict, GoesOn, Ends, Counts}
 
 -- ---- Turns
 

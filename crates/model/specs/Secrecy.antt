@@ -7,11 +7,7 @@ use Rattle.model.specs.Job.{Job}
 use Rattle.model.specs.Answer.{Left, numbersOf, bytesWritten, leftBy, runSheet}
 use Rattle.model.specs.Run.{runJob}
 use Rattle.model.specs.Sheet.{accepted, readSheet}
-use Rattle.model.specs.declared.Level.{Level}
-use Rattle.model.specs.declared.Level.the-variants.{High}
-use Rattle.model.specs.declared.Key.{Key}
-use Rattle.model.specs.declared.Key.the-variants.{Open, Secret}
-use Rattle.model.specs.declared.Entry.the-variants.{Absent}
+use Rattle.model.specs.Data.{Absent, Key, Open, Secret, Level, High}
 
 -- Whose secret a key is: a secret key's owner is the high level. (The statement is made over the owner o, so that it can be made for several.)
 abbrev pub OwnedBy : Level → Key → Type 0

@@ -13,8 +13,7 @@ use Rattle.model.specs.Messages.{readMessages}
 use Rattle.model.specs.Turns.{readTurns}
 use Rattle.model.specs.Text.{classOf, forbiddenClass, lineFeed, lines, count}
 use Rattle.model.specs.Limits.{mostBytes}
-use Rattle.model.specs.declared.Command.{Command}
-use Rattle.model.specs.declared.Key.{Key}
+use Rattle.model.specs.Data.{Key, Command}
 
 -- "A sheet is accepted exactly when no refusal from the input other than 10 applies to it."
 pub data Reading : Type 0 where

@@ -6,14 +6,7 @@ use mathlib.Core.Bool.{Bool}
 use lib.Dec.{leb}
 use Rattle.model.specs.Step.{does}
 use Rattle.model.specs.Command.{blank}
-use Rattle.model.specs.declared.Entry.{Entry}
-use Rattle.model.specs.declared.Execution.{Execution}
-use Rattle.model.specs.declared.Entry.the-variants.{Absent}
-use Rattle.model.specs.declared.Stepped.{Stepped}
-use Rattle.model.specs.declared.Command.{Command}
-use Rattle.model.specs.declared.Op.the-variants.{Set}
-use Rattle.model.specs.declared.Level.{Level}
-use Rattle.model.specs.declared.Level.the-variants.{Low, High}
+use Rattle.model.specs.Data.{Entry, Absent, Set, Command, Level, Low, High, Execution, Stepped}
 
 -- ---- One execution on its own fields
 

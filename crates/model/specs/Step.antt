@@ -6,15 +6,8 @@ use mathlib.Core.Bool.{cond}
 use lib.Signed.{ltZ}
 use Rattle.model.specs.Limits.{variables}
 use Rattle.model.specs.Arith.{sum, difference, product, quotient, isZero}
-use Rattle.model.specs.declared.Entry.{Entry}
-use Rattle.model.specs.declared.Entry.the-variants.{Absent, Number}
-use Rattle.model.specs.declared.Execution.{Execution}
-use Rattle.model.specs.declared.Stepped.{Stepped}
-use Rattle.model.specs.declared.Op.{Op}
-use Rattle.model.specs.declared.Op.the-variants.{Set, Add, Sub, Mul, Div, Read, Has, Put, Drop, IfNeg, IfZero, Jump, Receive, Send, Stop}
-use Rattle.model.specs.declared.Command.{Command}
-use Rattle.model.specs.declared.Call.{Call}
-use Rattle.model.specs.declared.Call.the-variants.{Neither, Receives, Sends}
+use Rattle.model.specs.Data.{Entry, Absent, Number, Op, Set, Add, Sub, Mul, Div, Read, Has, Put, Drop, IfNeg, IfZero, Jump, Receive, Send, Stop, Command, Call, Neither}
+use Rattle.model.specs.Data.{Receives, Sends, Execution, Stepped}
 
 -- "v becomes the entry at k, 0 if absent"
 abbrev pub numberOf : Entry → ℤ

@@ -7,19 +7,7 @@ use lib.ListN.{length, take, replicate}
 use Rattle.model.specs.Command.{blank}
 use Rattle.model.specs.Job.{Job}
 use Rattle.model.specs.Turns.{letterL}
-use Rattle.model.specs.declared.Command.{Command}
-use Rattle.model.specs.declared.Entry.{Entry}
-use Rattle.model.specs.declared.Entry.the-variants.{Absent}
-use Rattle.model.specs.declared.EntrySlot.{EntrySlot}
-use Rattle.model.specs.declared.Field.{Field}
-use Rattle.model.specs.declared.Key.{Key}
-use Rattle.model.specs.declared.Key.the-variants.{Open}
-use Rattle.model.specs.declared.KeySlot.{KeySlot}
-use Rattle.model.specs.declared.Level.{Level}
-use Rattle.model.specs.declared.Level.the-variants.{Low, High}
-use Rattle.model.specs.declared.MessageLine.{MessageLine}
-use Rattle.model.specs.declared.Op.the-variants.{Stop}
-use Rattle.model.specs.declared.StoredJob.{StoredJob}
+use Rattle.model.specs.Data.{Entry, Absent, Field, Key, Open, Stop, Command, Level, Low, High, KeySlot, EntrySlot, MessageLine, StoredJob}
 
 -- what the arrays hold: the constants of src/lib.rt
 abbrev pub keyCapacity : ℕ

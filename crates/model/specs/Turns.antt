@@ -9,8 +9,7 @@ use Rattle.model.specs.Limits.{mostLetters}
 use Rattle.model.specs.Text.{bytes}
 use Rattle.model.specs.Phase as Phase
 use Rattle.model.specs.Phase.{Phase, one}
-use Rattle.model.specs.declared.Level.{Level}
-use Rattle.model.specs.declared.Level.the-variants.{Low, High}
+use Rattle.model.specs.Data.{Level, Low, High}
 
 -- the letters `L` and `H`
 abbrev pub letterL : ℕ

@@ -7,15 +7,7 @@ use lib.Dec.{ltb, leb}
 use Rattle.model.specs.State.{State, command, process, stopped}
 use Rattle.model.specs.Output.{lineLength}
 use Rattle.model.specs.Step.{callOf}
-use Rattle.model.specs.declared.Key.{Key}
-use Rattle.model.specs.declared.Call.{Call}
-use Rattle.model.specs.declared.Call.the-variants.{Neither, Receives, Sends}
-use Rattle.model.specs.declared.Level.{Level}
-use Rattle.model.specs.declared.Command.{Command}
-use Rattle.model.specs.declared.Level.the-variants.{Low, High}
-use Rattle.model.specs.declared.Ending.the-variants.{Stopped, LettersUsed, NoRoom}
-use Rattle.model.specs.declared.Verdict.{Verdict}
-use Rattle.model.specs.declared.Verdict.the-variants.{GoesOn, Ends}
+use Rattle.model.specs.Data.{Key, Command, Call, Neither, Receives, Sends, Level, Low, High, Stopped, LettersUsed, NoRoom, Verdict, GoesOn, Ends}
 
 -- "Bytes written is 10 + 12 × K for each line sent."
 unfoldable pub written : List Key → State → ℕ

@@ -14,13 +14,7 @@ use Rattle.model.specs.Answer.{numbersOf, bytesWritten, leftBy, runSheet
 use Rattle.model.specs.Secrecy.{Alike, Hidden, Indistinguishable}
 use Rattle.model.specs.Accepted.{Bare}
 use Rattle.model.specs.Examples.{sheetA, lentByRunsheet}
-use Rattle.model.specs.declared.Entry.{Entry}
-use Rattle.model.specs.declared.Entry.the-variants.{Absent, Number}
-use Rattle.model.specs.declared.Key.{Key}
-use Rattle.model.specs.declared.Key.the-variants.{Open, Secret}
-use Rattle.model.specs.declared.Level.{Level}
-use Rattle.model.specs.declared.Level.the-variants.{Low, High}
-use Rattle.model.specs.declared.Op.the-variants.{Read, Put, Receive, Send, Stop}
+use Rattle.model.specs.Data.{Entry, Absent, Number, Key, Open, Secret, Read, Put, Receive, Send, Stop, Level, Low, High}
 
 -- ---- What sheet A says, with this entry at the secret key of its message, and these letters
 

@@ -12,8 +12,8 @@ use Rattle.model.specs.Sheet.{accepted, readSheet}
 use Rattle.model.specs.Run.{runJob}
 use Rattle.model.specs.Secrecy.{Alike, Hidden}
 use Rattle.model.specs.Witness.{sheet2, sheet3, otherSheet, job2, job3, lent}
-use Rattle.model.specs.declared.Answer.the-variants.{Refused}
 use Rattle.model.specs.declared.Level.the-variants.{High}
+use Rattle.model.specs.declared.Answer.the-variants.{Refused}
 use Rattle.pavebox.specs.Entry.{Answered}
 
 -- A call with an answer memory of 24 bytes

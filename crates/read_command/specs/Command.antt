@@ -7,9 +7,9 @@ use lib.IntN.{ℤ}
 use lib.ListN.{length, take, drop}
 use Rattle.model.specs.Parsed.{Parsed, got, refused, _>>=_}
 use Rattle.model.specs.declared.Op.{Op}
+use Rattle.model.specs.declared.Command.{Command}
 use Rattle.model.specs.declared.Operand.{Operand}
 use Rattle.model.specs.declared.Operand.the-variants.{InV, InW, InK, InT, InN}
-use Rattle.model.specs.declared.Command.{Command}
 use Rattle.read_command.specs.declared.Line.{Line}
 use Rattle.read_command.specs.declared.Line.the-variants.{Got, Refused}
 use Rattle.read_command.specs.declared.Shape.{Shape}

@@ -17,9 +17,9 @@ use Rattle.model.specs.Messages.{readMessages}
 use Rattle.model.specs.Turns.{readTurns}
 use Rattle.model.specs.Job.{Job}
 use Rattle.model.specs.Sheet.{Reading, accepted, refused, next, targets, readBody, readLines, forbiddenLine, closed, readSheet}
-use Rattle.model.specs.declared.Command.{Command}
 use Rattle.model.specs.declared.Entry.{Entry}
 use Rattle.model.specs.declared.Key.{Key}
+use Rattle.model.specs.declared.Command.{Command}
 use Rattle.model.specs.declared.Level.{Level}
 use Rattle.read_text.specs.Text.{free, Word}
 use Rattle.read_line.specs.Line.{Reads, Ahead, phaseAs}

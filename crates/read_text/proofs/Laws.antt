@@ -15,8 +15,7 @@ use Rattle.model.specs.Parsed.{got, refused, _>>=_}
 use Rattle.model.specs.Number.{digits, digitsTo, within, upTo, fromOne, natural, negative, positive, number}
 use Rattle.model.specs.Text.{find, count, classOf, between}
 use Rattle.model.specs.Sheet.{forbiddenLine, closed}
-use Rattle.read_text.specs.Text.{forbiddenPlace}
-use Rattle.read_text.specs.Text.{starts}
+use Rattle.read_text.specs.Text.{forbiddenPlace, starts}
 
 -- one byte of what is left
 pub uncons : (s : List ℕ) (i : ℕ) → i < length s → drop i s ≡ getD s i 0 ∷ drop (i + 1) s

@@ -22,19 +22,19 @@ use Rattle.model.specs.Run.{share, lead, followed, follow, counted, turn, ended
 use Rattle.model.specs.Turns.{letterL}
 use Rattle.model.specs.Output.{lineLength}
 use Rattle.model.specs.Verdict.{written, short, allUsed, noRoom, verdictBy, verdict, idles}
-use Rattle.model.specs.declared.Call.{Call}
-use Rattle.model.specs.declared.Call.the-variants.{Neither, Receives, Sends}
-use Rattle.model.specs.declared.Command.{Command}
-use Rattle.model.specs.declared.Ending.{Ending}
 use Rattle.model.specs.declared.Entry.{Entry}
 use Rattle.model.specs.declared.Entry.the-variants.{Absent}
-use Rattle.model.specs.declared.Execution.{Execution}
 use Rattle.model.specs.declared.Key.{Key}
-use Rattle.model.specs.declared.Level.{Level}
-use Rattle.model.specs.declared.Level.the-variants.{Low, High}
 use Rattle.model.specs.declared.Op.{Op}
 use Rattle.model.specs.declared.Op.the-variants.{Set, Add, Sub, Mul, Div, Read, Has, Put, Drop, IfNeg, IfZero, Jump, Receive, Send, Stop}
+use Rattle.model.specs.declared.Command.{Command}
+use Rattle.model.specs.declared.Call.{Call}
+use Rattle.model.specs.declared.Call.the-variants.{Neither, Receives, Sends}
+use Rattle.model.specs.declared.Level.{Level}
+use Rattle.model.specs.declared.Level.the-variants.{Low, High}
+use Rattle.model.specs.declared.Execution.{Execution}
 use Rattle.model.specs.declared.Stepped.{Stepped}
+use Rattle.model.specs.declared.Ending.{Ending}
 use Rattle.model.specs.declared.Verdict.the-variants.{GoesOn, Ends}
 use Rattle.run_step.proofs.Laws.{effect-calls, effect-does}
 use Rattle.run_verdict.specs.Verdict.{lacksRoom}

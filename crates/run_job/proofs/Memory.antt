@@ -15,14 +15,14 @@ use Rattle.model.specs.Verdict.{written}
 use Rattle.model.specs.Output.{lineLength, lineBytes, bytesOf, memoryAfter}
 use Rattle.model.specs.Answer.{left, leftBy}
 use Rattle.model.proofs.Output.{line-length}
-use Rattle.model.specs.declared.Answer.the-variants.{Ended}
-use Rattle.model.specs.declared.Ending.{Ending}
 use Rattle.model.specs.declared.Entry.{Entry}
 use Rattle.model.specs.declared.Entry.the-variants.{Absent}
-use Rattle.model.specs.declared.Execution.{Execution}
 use Rattle.model.specs.declared.Key.{Key}
 use Rattle.model.specs.declared.Level.{Level}
 use Rattle.model.specs.declared.Level.the-variants.{Low, High}
+use Rattle.model.specs.declared.Execution.{Execution}
+use Rattle.model.specs.declared.Ending.{Ending}
+use Rattle.model.specs.declared.Answer.the-variants.{Ended}
 use Rattle.run_verdict.specs.Verdict.{countsOf}
 use Rattle.write_line.specs.Placed.{placed}
 use Rattle.write_line.specs.Line.{lineOf}

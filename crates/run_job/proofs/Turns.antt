@@ -22,22 +22,22 @@ use Rattle.model.specs.Output.{lineLength, lineBytes}
 use Rattle.model.specs.Verdict.{short, verdictBy, verdict, idles}
 use Rattle.model.specs.Run.{runJob}
 use Rattle.model.specs.Answer.{left, leftBy}
-use Rattle.model.specs.declared.Answer.{Answer}
-use Rattle.model.specs.declared.Answer.the-variants.{Ended}
+use Rattle.model.specs.declared.Entry.the-variants.{Absent}
+use Rattle.model.specs.declared.Field.{Field}
+use Rattle.model.specs.declared.Command.{Command}
 use Rattle.model.specs.declared.Call.{Call}
 use Rattle.model.specs.declared.Call.the-variants.{Neither, Receives, Sends}
-use Rattle.model.specs.declared.Command.{Command}
-use Rattle.model.specs.declared.Ending.{Ending}
-use Rattle.model.specs.declared.Entry.the-variants.{Absent}
-use Rattle.model.specs.declared.Execution.{Execution}
-use Rattle.model.specs.declared.Field.{Field}
-use Rattle.model.specs.declared.KeySlot.{KeySlot}
 use Rattle.model.specs.declared.Level.{Level}
 use Rattle.model.specs.declared.Level.the-variants.{Low, High}
-use Rattle.model.specs.declared.MessageLine.{MessageLine}
+use Rattle.model.specs.declared.Execution.{Execution}
 use Rattle.model.specs.declared.Stepped.{Stepped}
+use Rattle.model.specs.declared.Ending.{Ending}
 use Rattle.model.specs.declared.Verdict.{Verdict}
 use Rattle.model.specs.declared.Verdict.the-variants.{GoesOn, Ends}
+use Rattle.model.specs.declared.Answer.{Answer}
+use Rattle.model.specs.declared.Answer.the-variants.{Ended}
+use Rattle.model.specs.declared.KeySlot.{KeySlot}
+use Rattle.model.specs.declared.MessageLine.{MessageLine}
 use Rattle.write_line.specs.Placed.{placed}
 use Rattle.write_line.specs.Line.{columnsIn, lineOf}
 use Rattle.write_line.proofs.Laws.{held-at}

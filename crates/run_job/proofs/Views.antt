@@ -17,13 +17,13 @@ use Rattle.model.specs.Accepted.{Within}
 use Rattle.model.specs.Message.{fill, received}
 use Rattle.model.proofs.Accepted.{every-at}
 use Rattle.model.proofs.Stored.{first-count}
-use Rattle.model.specs.declared.Command.{Command}
 use Rattle.model.specs.declared.Entry.{Entry}
 use Rattle.model.specs.declared.Entry.the-variants.{Absent}
-use Rattle.model.specs.declared.KeySlot.{KeySlot}
-use Rattle.model.specs.declared.Level.{Level}
-use Rattle.model.specs.declared.MessageLine.{MessageLine}
 use Rattle.model.specs.declared.Op.the-variants.{Set}
+use Rattle.model.specs.declared.Command.{Command}
+use Rattle.model.specs.declared.Level.{Level}
+use Rattle.model.specs.declared.KeySlot.{KeySlot}
+use Rattle.model.specs.declared.MessageLine.{MessageLine}
 use Rattle.run_job.specs.Job.{Ready}
 use Rattle.run_job.proofs.Laws.{commandAt}
 

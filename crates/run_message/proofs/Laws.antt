@@ -13,13 +13,13 @@ use Rattle.run_message.specs.Message.{fieldOf, Cleared}
 use Rattle.model.proofs.Stored.{map-set, first-set, first-same, first-at, first-count}
 use Rattle.model.specs.declared.Entry.{Entry}
 use Rattle.model.specs.declared.Entry.the-variants.{Absent, Number}
-use Rattle.model.specs.declared.EntrySlot.{EntrySlot}
 use Rattle.model.specs.declared.Field.{Field}
 use Rattle.model.specs.declared.Key.{Key}
 use Rattle.model.specs.declared.Key.the-variants.{Open, Secret}
-use Rattle.model.specs.declared.KeySlot.{KeySlot}
 use Rattle.model.specs.declared.Level.{Level}
 use Rattle.model.specs.declared.Level.the-variants.{Low, High}
+use Rattle.model.specs.declared.KeySlot.{KeySlot}
+use Rattle.model.specs.declared.EntrySlot.{EntrySlot}
 
 fill-length : (l : Level) (ks : List Key) (es : List Entry) → length (fill l ks es) ≡ length ks
 unfolding fill

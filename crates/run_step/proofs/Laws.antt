@@ -8,9 +8,9 @@ use lib.ListN.{set}
 use lib.Seq.{set-getD}
 use Rattle.model.specs.Arith.{isZero}
 use Rattle.model.specs.Step.{variable, afterOf, goes, assigns, calling, doesBy, does}
+use Rattle.model.specs.declared.Entry.{Entry}
 use Rattle.model.specs.declared.Op.{Op}
 use Rattle.model.specs.declared.Op.the-variants.{Set, Add, Sub, Mul, Div, Read, Has, Put, Drop, IfNeg, IfZero, Jump, Receive, Send, Stop}
-use Rattle.model.specs.declared.Entry.{Entry}
 use Rattle.model.specs.declared.Command.{Command}
 use Rattle.model.specs.declared.Execution.{Execution}
 use Rattle.model.specs.declared.Stepped.{Stepped}

@@ -6,10 +6,10 @@ use lib.Signed.{ltZ}
 use Rattle.model.specs.Limits.{variables}
 use Rattle.model.specs.Arith.{sum, difference, product, quotient, isZero}
 use Rattle.model.specs.Step.{numberOf, presence}
-use Rattle.model.specs.declared.Op.{Op}
-use Rattle.model.specs.declared.Op.the-variants.{Set, Add, Sub, Mul, Div, Read, Has, Put, Drop, IfNeg, IfZero, Jump, Receive, Send, Stop}
 use Rattle.model.specs.declared.Entry.{Entry}
 use Rattle.model.specs.declared.Entry.the-variants.{Absent, Number}
+use Rattle.model.specs.declared.Op.{Op}
+use Rattle.model.specs.declared.Op.the-variants.{Set, Add, Sub, Mul, Div, Read, Has, Put, Drop, IfNeg, IfZero, Jump, Receive, Send, Stop}
 use Rattle.model.specs.declared.Command.{Command}
 use Rattle.model.specs.declared.Execution.{Execution}
 use Rattle.run_step.specs.declared.Effect.{Effect}

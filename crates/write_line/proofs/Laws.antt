@@ -16,9 +16,9 @@ use Rattle.model.specs.declared.Entry.the-variants.{Absent}
 use Rattle.model.specs.declared.Field.{Field}
 use Rattle.model.specs.declared.Key.{Key}
 use Rattle.model.specs.declared.Key.the-variants.{Open}
-use Rattle.model.specs.declared.KeySlot.{KeySlot}
 use Rattle.model.specs.declared.Level.{Level}
 use Rattle.model.specs.declared.Level.the-variants.{Low, High}
+use Rattle.model.specs.declared.KeySlot.{KeySlot}
 use Rattle.model.proofs.Output.{cell-length, cells-length, heading-length}
 use Rattle.model.proofs.Stored.{first-at, first-count}
 use Rattle.write_line.specs.Placed.{placed}

@@ -53,14 +53,11 @@ first-word-spec =
     Inv-loop
     μ-loop
     (λ c. (omega arith, omega arith, omega arith, λ m. packed-none _))
-    (λ c. omega arith)
-    (λ c κs. omega arith)
+    (λ c. omega arith) (λ c κs. omega arith)
     returns
-    (λ c. omega arith)
-    (λ c κs. search needs)
+    (λ c. omega arith) (λ c κs. search needs)
     (λ c. omega (arith, c .before .before .shared-slice-known2 .given (c .before .before .before .before .loop .i)))
-    (λ c. omega arith)
-    (λ c. omega arith)
+    (λ c. omega arith) (λ c. omega arith)
     loop-again
     (λ c κs. omega arith)
     returns-2)

@@ -14,10 +14,6 @@ only-space-spec =
     (tie.spec
     (λ c κs. search needs)
     (λ c. cut-few _ _ (c .before .find-byte .ensures) (c .if1 .taken))
-    (λ c. search needs)
-    (λ c. search needs)
-    (λ c. search needs)
-    (λ c. search needs)
-    (λ c κs. search needs)
+    (λ c. search needs) (λ c. search needs) (λ c. search needs) (λ c. search needs) (λ c κs. search needs)
     (λ c. cut-many _ _ (space-found (c .before) .find-byte .ensures) (c .before .before .before .if1 .left) _ (c .before .find-byte2 .ensures) (c .if2 .taken))
     (λ c. cut-is _ _ (space-found (c .before) .find-byte .ensures) (c .before .before .before .if1 .left) _ (c .before .find-byte2 .ensures) (c .if2 .left)))

@@ -36,19 +36,11 @@ pub read-command-spec : {M : Type 1} → statement M
 read-command-spec =
     tie.close
     (tie.spec
-    (λ c κs. search needs)
-    (λ c κs. search needs)
-    (λ c. search needs)
+    (λ c κs. search needs) (λ c κs. search needs) (λ c. search needs)
     (λ c. sym (word-more _ (word-read (c .before .before .before .before) (c .before .before .op .given .1)) (c .if1 .taken) ∙ alone-not _ _ _))
-    (λ c κs. search needs)
-    (λ c. search needs)
+    (λ c κs. search needs) (λ c. search needs)
     (λ c. sym (word-alone _ (word-read (c .before .before .before .before) (c .before .before .op2 .given .1)) (c .if2 .taken) ∙ parts-not _ _ (c .before .before .op2 .given .0 .1 .0)))
-    (λ c. search needs)
-    (λ c. search needs)
-    (λ c. search needs)
-    (λ c. search needs)
-    (λ c κs. search needs)
-    (λ c. search needs)
+    (λ c. search needs) (λ c. search needs) (λ c. search needs) (λ c. search needs) (λ c κs. search needs) (λ c. search needs)
     returns-3
     returns-4
     (λ c. sym (word-none _ (word-read (c .before .before) (c .enum-told .given .1)))))

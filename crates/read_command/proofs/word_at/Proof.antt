@@ -9,7 +9,6 @@ pub word-at-spec : {M : Type 1} → statement M
 word-at-spec =
     tie.close
     (tie.spec
-    (λ c. search needs)
-    (λ c. search needs)
+    (λ c. search needs) (λ c. search needs)
     (λ c. (refl, sym (count-long _ _ (c .if1 .taken))))
     (λ c. (refl, sym (count-short _ _ (c .if1 .left)))))

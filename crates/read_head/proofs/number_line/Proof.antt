@@ -34,15 +34,11 @@ pub number-line-spec : {M : Type 1} → statement M
 number-line-spec =
     tie.close
     (tie.spec
-    (λ c κs. search needs)
-    (λ c. search needs)
-    (λ c. search needs)
+    (λ c κs. search needs) (λ c. search needs) (λ c. search needs)
     (λ c. let h = placed (lineOf (c .before) .first-line .ensures) (c .before .v .given .1) in omega arith)
     (λ c. let h = placed (lineOf (c .before) .first-line .ensures) (c .before .v .given .1) in omega arith)
     (λ c. let h = placed (lineOf (c .before) .first-line .ensures) (c .before .v .given .1) in omega arith)
-    (λ c κs. search needs)
-    (λ c. search needs)
-    (λ c. search needs)
+    (λ c κs. search needs) (λ c. search needs) (λ c. search needs)
     (λ c. let e = hereOf (c .before .before .before) in let h = placed (lineOf e .first-line .ensures) (e .v .given .1) in omega arith)
     (λ c. let e = hereOf (c .before .before .before) in let h = placed (lineOf e .first-line .ensures) (e .v .given .1) in omega arith)
     (λ c. record { read = λ w W. one-other W (c .before .before .first-line .ensures) _ (c .enum-told .given .1); least = omega arith; most = search needs })

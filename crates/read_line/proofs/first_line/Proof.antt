@@ -34,8 +34,7 @@ first-line-spec =
     (λ c. record { line = λ w W. sym (headed-other W _ (sym (c .before .starts-with .ensures) ∙ not-true _ (c .if1 .taken))); place = tt })
     (λ c. starts-length _ _ (sym (c .before .starts-with .ensures) ∙ not-false _ (c .if1 .left)))
     (λ c. starts-length _ _ (sym (c .before .starts-with .ensures) ∙ not-false _ (c .if1 .left)))
-    (λ c. search needs)
-    (λ c κs. search needs)
+    (λ c. search needs) (λ c κs. search needs)
     returns-2
     (λ c. search needs)
     returns-3)

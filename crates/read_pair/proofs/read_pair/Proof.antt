@@ -65,18 +65,9 @@ read-pair-spec =
     (λ c κs. search needs)
     (λ c. sym (pair-no-colon _ _ _ _ (c .before .find-byte .ensures) (c .if1 .taken)))
     (λ c. sym (length-take-le _ _ (omega arith)))
-    (λ c. search needs)
-    (λ c κs. search needs)
-    (λ c. search needs)
-    (λ c. search needs)
+    (λ c. search needs) (λ c κs. search needs) (λ c. search needs) (λ c. search needs)
     returns-2
-    (λ c. search needs)
-    (λ c. search needs)
-    (λ c. search needs)
-    (λ c. search needs)
-    (λ c κs. search needs)
-    (λ c. search needs)
-    (λ c. search needs)
+    (λ c. search needs) (λ c. search needs) (λ c. search needs) (λ c. search needs) (λ c κs. search needs) (λ c. search needs) (λ c. search needs)
     returns-3
     returns-4
     returns-5)

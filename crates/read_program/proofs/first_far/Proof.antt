@@ -19,11 +19,7 @@ first-far-spec =
     Inv-loop
     μ-loop
     (λ c. near-first _ _)
-    (λ c. omega arith)
-    (λ c. omega arith)
-    (λ c. search needs)
-    (λ c. omega arith)
-    (λ c. omega arith)
+    (λ c. omega arith) (λ c. omega arith) (λ c. search needs) (λ c. omega arith) (λ c. omega arith)
     (λ c. near-next (c .before .before .before .before .loop .inv) (search needs) (search needs) _ (c .before .before .before .loop-test .taken) (c .if1 .left))
     (λ c. near-all (c .before .loop .inv) (search needs) (search needs) (c .loop-test .left))
     (λ c. far-here (c .before .before .before .before .loop .inv) (search needs) (search needs) _ (c .before .before .before .loop-test .taken) (c .if1 .taken)))

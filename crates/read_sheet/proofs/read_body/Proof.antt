@@ -81,24 +81,17 @@ pub read-body-spec : {M : Type 1} → statement M
 read-body-spec =
     tie.close
     (tie.spec
-    (λ c κs. search needs)
-    (λ c. search needs)
-    (λ c κs. search needs)
-    (λ c. search needs)
+    (λ c κs. search needs) (λ c. search needs) (λ c κs. search needs) (λ c. search needs)
     (λ c. reached (c .before .before .before .read-commands .ensures .read) (c .before .phase2 .given .1) .0)
     (λ c. reached (c .before .before .before .read-commands .ensures .read) (c .before .phase2 .given .1) .0)
     (λ c. search needs)
     (λ c κs. let b = numbers₁ (c .before .before) in (omega arith, omega arith, omega arith))
-    (λ c. search needs)
-    (λ c κs. search needs)
-    (λ c. search needs)
+    (λ c. search needs) (λ c κs. search needs) (λ c. search needs)
     (λ c. reached (c .before .before .before .read-messages .ensures .read) (c .before .phase4 .given .1) .0)
     (λ c. reached (c .before .before .before .read-messages .ensures .read) (c .before .phase4 .given .1) .0)
     (λ c. search needs)
     (λ c κs. let b = numbers₂ (c .before .before) in omega arith)
-    (λ c. search needs)
-    (λ c κs. search needs)
-    (λ c. search needs)
+    (λ c. search needs) (λ c κs. search needs) (λ c. search needs)
     test-targets-requires
     (λ c. answers (stop-commands _ _ (c .before .before .before .before .read-commands .ensures .read) (c .before .before .phase .given .1)) (c .refuse .ensures))
     returns-2

@@ -61,11 +61,8 @@ digits-up-to-spec =
     (λ c. omega arith)
     returns
     returns-2
-    (λ c. omega arith)
-    (λ c κs. search needs)
-    (λ c. omega arith)
+    (λ c. omega arith) (λ c κs. search needs) (λ c. omega arith)
     returns-3
-    (λ c. omega arith)
-    (λ c. omega arith)
+    (λ c. omega arith) (λ c. omega arith)
     loop-again
     returns-4)

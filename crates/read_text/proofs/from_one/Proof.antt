@@ -11,9 +11,7 @@ pub from-one-spec : {M : Type 1} → statement M
 from-one-spec =
     tie.close
     (tie.spec
-    (λ c κs. search needs)
-    (λ c. search needs)
-    (λ c. search needs)
+    (λ c κs. search needs) (λ c. search needs) (λ c. search needs)
     (λ c. sym (from-one-zero _ _ _ (sym (c .before .before .before .before .up-to .ensures) ∙ ap naturalAs (c .before .before .n .given .1)) (c .if1 .taken)))
     (λ c. sym (from-one-ok _ _ _ (sym (c .before .before .before .before .up-to .ensures) ∙ ap naturalAs (c .before .before .n .given .1)) (omega arith)))
     (λ c. sym (from-one-bad _ _ _ (sym (c .before .before .before .up-to .ensures) ∙ ap naturalAs (c .before .r .given .1)))))

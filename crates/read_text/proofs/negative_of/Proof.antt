@@ -43,8 +43,7 @@ pub negative-of-spec : {M : Type 1} → statement M
 negative-of-spec =
     tie.close
     (tie.spec
-    (λ c κs. search needs)
-    (λ c. search needs)
+    (λ c κs. search needs) (λ c. search needs)
     cast-z
     sub-t9
     cast-t10

@@ -1,7 +1,6 @@
 -- Nothing, a minus sign, or a number without one.
 use Rattle.model.specs.Number.{negative}
-use Rattle.read_text.proofs.Laws.{rest}
-use Rattle.read_text.proofs.Laws.{number-empty, number-minus, number-plain}
+use Rattle.read_text.proofs.Laws.{rest, number-empty, number-minus, number-plain}
 use mathlib.Core.Path.{_∙_, sym, ap}
 use borrow.Author.Needs.{needs}
 use Rattle.read_text.proofs.number_of.Statement.{statement}
@@ -21,11 +20,7 @@ number-of-spec =
     tie.close
     (tie.spec
     returns
-    (λ c. search needs)
-    (λ c. search needs)
-    (λ c. search needs)
-    (λ c. search needs)
-    (λ c κs. search needs)
+    (λ c. search needs) (λ c. search needs) (λ c. search needs) (λ c. search needs) (λ c κs. search needs)
     returns-2
     (λ c κs. search needs)
     returns-3)

@@ -39,11 +39,7 @@ copy-letters-spec =
     (λ c. record { read = sym (turns-long _ (omega arith)); few = omega arith })
     (λ c. record { read = sym (turns-none _ (c .if2 .taken)); few = omega arith })
     (λ c. (omega arith, refl, onto-none _ ∙ sym (turns-letters _ (omega arith) (c .if2 .left))))
-    (λ c. omega arith)
-    (λ c κs. search needs)
-    (λ c. omega arith)
-    (λ c. omega arith)
-    (λ c. omega arith)
+    (λ c. omega arith) (λ c κs. search needs) (λ c. omega arith) (λ c. omega arith) (λ c. omega arith)
     loop-again
     (λ c. let l = c .before .loop in record { read = sym (letters-end _ (l .i) (l .letters) (c .if3 .taken)) ∙ l .inv .2; few = omega arith })
     returns-4)

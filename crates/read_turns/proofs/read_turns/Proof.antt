@@ -67,21 +67,15 @@ pub read-turns-spec : {M : Type 1} → statement M
 read-turns-spec =
     tie.close
     (tie.spec
-    (λ c. search needs)
-    (λ c κs. search needs)
-    (λ c. search needs)
-    (λ c. search needs)
+    (λ c. search needs) (λ c κs. search needs) (λ c. search needs) (λ c. search needs)
     (λ c. let h = placed (lineOf (c .before) .first-line .ensures) (c .before .v .given .1) in omega arith)
     (λ c. let h = placed (lineOf (c .before) .first-line .ensures) (c .before .v .given .1) in omega arith)
     (λ c. let h = placed (lineOf (c .before) .first-line .ensures) (c .before .v .given .1) in omega arith)
-    (λ c κs. search needs)
-    (λ c. search needs)
-    (λ c. search needs)
+    (λ c κs. search needs) (λ c. search needs) (λ c. search needs)
     (λ c. let h = read c .ahead in omega arith)
     (λ c. let h = read c .ahead in omega arith)
     (λ c. let h = read c .ahead in omega arith)
-    (λ c. search needs)
-    (λ c κs. search needs)
+    (λ c. search needs) (λ c κs. search needs)
     (λ c. let h = read (readOf (c .before)) .ahead in omega arith)
     returns
     (λ c. let h = read (readOf (c .before)) .ahead in omega arith)

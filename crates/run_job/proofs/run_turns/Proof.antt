@@ -17,8 +17,7 @@ use Rattle.run_verdict.specs.Verdict.{lacksRoom}
 use Rattle.run_job.proofs.Laws.{commandAt, goes-on}
 use Rattle.run_job.proofs.Views.{InArrays}
 use Rattle.run_job.proofs.Turns.{Inv, Taken, verdictHere, starts, readable-below, room-enough, counts-fit, found, answers}
-use Rattle.run_job.proofs.Turns.{at-few, steps-few, called-fits, written-few, key-few, may-step-low, low-receives, low-sends, low-does}
-use Rattle.run_job.proofs.Turns.{key-few-high, may-step-high, high-idles, high-does}
+use Rattle.run_job.proofs.Turns.{at-few, steps-few, called-fits, written-few, key-few, may-step-low, low-receives, low-sends, low-does, key-few-high, may-step-high, high-idles, high-does}
 use Rattle.run_job.proofs.run_turns.Statement.{statement}
 use Rattle.run_job.proofs.run_turns.Tie as tie
 

@@ -9,8 +9,5 @@ pub run-and-print-spec : {M : Type 1} → statement M
 run-and-print-spec =
     tie.close
     (tie.spec
-    (λ c κs. search needs)
-    (λ c κs. search needs)
-    (λ c κs. search needs)
-    (λ c. search needs)
+    (λ c κs. search needs) (λ c κs. search needs) (λ c κs. search needs) (λ c. search needs)
     (λ c. ap (λ (x : Left). x .memory) (c .before .before .before .before .before .run-sheet .ensures)))

@@ -1,10 +1,9 @@
 -- The two cases of the entry.
 use mathlib.Core.Path.{sym, ap, _∙_}
-use lib.IntN.{ℤ}
+use lib.IntN.{ℤ, natAbs}
 use Rattle.model.specs.declared.Entry.{Entry}
 use Rattle.write_line.specs.Placed.{placed}
 use mathlib.Core.List.{_∷_}
-use lib.IntN.{natAbs}
 use Rattle.model.specs.Output.{cell, sign, digits}
 use borrow.Author.Needs.{needs}
 use Rattle.write_line.proofs.cell.Statement.{statement}
