@@ -3,28 +3,25 @@ use Prim.Native.Nat.{ℕ, zero, suc, pred, _+_, _-_, _<_, _≤_, zero-le, suc-le
 use mathlib.Core.Path.{_≡_, refl, sym, _∙_, ap, subst}
 use mathlib.Core.Bool.{Bool, true, false, cond}
 use mathlib.Core.List.{List, [], _∷_, _++_}
-use lib.Dec.{eqb, leb, ltb}
-use lib.IntN.{ℤ, pos, negsuc}
-use lib.ListN.{length, set, replicate, getD, length-set, length-replicate, length-append}
+use lib.{Dec.eqb, Dec.leb, Dec.ltb, IntN.ℤ, IntN.pos, IntN.negsuc, ListN.length, ListN.set, ListN.replicate, ListN.getD, ListN.length-set, ListN.length-replicate}
+use lib.{ListN.length-append}
 use borrow.Author.Tests.{eq-eqb, leb-true, ltb-true, ltb-false}
 use native.Mathlib.Omega.{arith}
-use Rattle.model.specs.Limits.{mostBytes, mostKeys, mostCommands, mostMessages, mostLetters, variables, greatestNumber, leastNumber}
-use Rattle.model.specs.Parsed.{Parsed, got, refused, need, _>>=_, _>>_}
-use Rattle.model.specs.Text.{bytes, same, divide, split, lines, count, lineFeed, space, comma, minus, colon}
-use Rattle.model.specs.Number.{natural, within, upTo, fromOne, negative, positive, number}
-use Rattle.model.specs.Command.{Row, Limits, table, blank, operand, operands, rowOf, byRow, words, readCommand, limits}
-use Rattle.model.specs.Pair.{ByKey, everywhere, pair, part}
-use Rattle.model.specs.Head.{sheetLine, keysLine, secretLine, allOpen, readFirst, readKeys, readSecrets}
-use Rattle.model.specs.Messages.{parts, allAbsent, message, messageLine, readMessages}
-use Rattle.model.specs.Turns.{letter, letters, turnsLine, nothingAfter, readTurns}
-use Rattle.model.specs.Job.{Job}
+use Rattle.model.specs.{Limits.mostBytes, Limits.mostKeys, Limits.mostCommands, Limits.mostMessages, Limits.mostLetters, Limits.variables, Limits.greatestNumber}
+use Rattle.model.specs.{Limits.leastNumber, Parsed.Parsed, Parsed.got, Parsed.refused, Parsed.need, Parsed._>>=_, Parsed._>>_, Text.bytes, Text.same, Text.divide}
+use Rattle.model.specs.{Text.split, Text.lines, Text.count, Text.lineFeed, Text.space, Text.comma, Text.minus, Text.colon, Number.natural, Number.within}
+use Rattle.model.specs.{Number.upTo, Number.fromOne, Number.negative, Number.positive, Number.number, Command.Row, Command.Limits, Command.table, Command.blank}
+use Rattle.model.specs.{Command.operand, Command.operands, Command.rowOf, Command.byRow, Command.words, Command.readCommand, Command.limits, Pair.ByKey}
+use Rattle.model.specs.{Pair.everywhere, Pair.pair, Pair.part, Head.sheetLine, Head.keysLine, Head.secretLine, Head.allOpen, Head.readFirst, Head.readKeys}
+use Rattle.model.specs.{Head.readSecrets, Messages.parts, Messages.allAbsent, Messages.message, Messages.messageLine, Messages.readMessages, Turns.letter}
+use Rattle.model.specs.{Turns.letters, Turns.turnsLine, Turns.nothingAfter, Turns.readTurns, Job.Job, Phase.Phase, Phase.after, Phase.one, Phase.many}
+use Rattle.model.specs.{Phase.oneMore, Phase.some, Phase.numbered, Phase.onward, Phase.eachLine, Sheet.Reading, Sheet.accepted, Sheet.next, Sheet.targets}
+use Rattle.model.specs.{Sheet.readBody, Sheet.readLines, Sheet.forbiddenLine, Sheet.closed, Sheet.readSheet, Program.readCommands, Accepted.rowFor}
+use Rattle.model.specs.{Accepted.ordinal, Accepted.has, Accepted.kept, Accepted.Bare, Accepted.InRange, Accepted.KeyInRange, Accepted.EntryInRange, Accepted.Within}
+use Rattle.model.specs.{Accepted.Every, Accepted.Full, Accepted.Sound, Accepted.AcceptedSound, Accepted.KeysRise, Data.Entry, Data.Absent, Data.Number, Data.Key}
+use Rattle.model.specs.{Data.Open, Data.Secret, Data.Op, Data.Command, Data.Operand, Data.InV, Data.InW, Data.InK, Data.InT, Data.InN, Data.Level}
 use Rattle.model.specs.Phase as Phase
 use Rattle.model.specs.Sheet as Sheet
-use Rattle.model.specs.Phase.{Phase, after, one, many, oneMore, some, numbered, onward, eachLine}
-use Rattle.model.specs.Sheet.{Reading, accepted, next, targets, readBody, readLines, forbiddenLine, closed, readSheet}
-use Rattle.model.specs.Program.{readCommands}
-use Rattle.model.specs.Accepted.{rowFor, ordinal, has, kept, Bare, InRange, KeyInRange, EntryInRange, Within, Every, Full, Sound, AcceptedSound, KeysRise}
-use Rattle.model.specs.Data.{Entry, Absent, Number, Key, Open, Secret, Op, Command, Operand, InV, InW, InK, InT, InN, Level}
 
 -- ---- Choices
 

@@ -15,7 +15,7 @@ use Rattle.model.specs.Step as Step
 use Rattle.model.specs.State as State
 use Rattle.model.specs.Message as Message
 use Rattle.model.specs.Run as Run
-use Rattle.model.specs.Output as Output
+use Rattle.model.specs.Line as Line
 use Rattle.model.specs.Verdict as Verdict
 use Rattle.model.specs.Answer as Answer
 use Rattle.model.specs.Examples as Examples
@@ -39,7 +39,7 @@ unfolding Text.bytes Text.classOf Text.same Text.find Text.divide Text.split Tex
     Message.shown Message.fill Message.received Message.takes Message.receive Message.source Message.columns Message.send
     Verdict.waits Verdict.written Verdict.short Verdict.idles Verdict.noRoom Verdict.verdict
     Run.share Run.lead Run.followed Run.follow Run.counted Run.turn Run.ended Run.run Run.fresh Run.initial Run.runJob
-    Output.lineLength Output.digits Output.sign Output.cell Output.cells Output.heading Output.lineBytes Output.bytesOf Output.memoryAfter
+    Line.lineLength Line.digits Line.sign Line.cell Line.cells Line.heading Line.lineBytes Line.bytesOf Line.memoryAfter
     Answer.numbersOf Answer.runSheet Answer.decimal Answer.natural Answer.spaced Answer.report Answer.printed
     Examples.result Examples.sheetA Examples.sheet8 Examples.list
 opened = tt

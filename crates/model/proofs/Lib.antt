@@ -3,7 +3,7 @@ pub mod Examples
 pub mod Stored
 pub mod Counted
 pub mod Lockstep
-pub mod Output
+pub mod Line
 pub mod Secrecy
 pub mod Accepted
 pub mod Witness

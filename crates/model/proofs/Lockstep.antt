@@ -3,15 +3,14 @@ use Prim.Native.Nat.{ℕ, suc, _+_, _<_, zero-le, suc-le-suc}
 use mathlib.Core.Path.{_≡_, refl, sym, _∙_, ap, ap₂, subst}
 use mathlib.Core.Logic.{_≢_}
 use mathlib.Core.List.{List, [], _∷_, _++_}
-use lib.ListN.{length, getD, drop}
-use lib.Seq.{getD-drop}
+use lib.{ListN.length, ListN.getD, ListN.drop, Seq.getD-drop}
 use native.Mathlib.Numerals.{one-add}
-use Rattle.model.specs.Step.{callOf}
-use Rattle.model.specs.State.{Process, Processes, Sent, Common, State, fieldsOf, refill, step, command, at, put, each, process, withProcess}
-use Rattle.model.specs.Run.{Outcome, share, counted, lead, followed, follow, turn, ended, settle, run, initial}
-use Rattle.model.specs.Message.{shown, source, fill, takes, received, receive, columns, send}
-use Rattle.model.specs.Verdict.{written, noRoom, verdict}
-use Rattle.model.specs.Data.{Entry, Absent, Key, Open, Secret, Command, Call, Neither, Receives, Sends, Level, Low, High, Ending, LettersUsed, Verdict, GoesOn, Ends}
+use Rattle.model.specs.{Step.callOf, State.Process, State.Processes, State.Sent, State.Common, State.State, State.fieldsOf, State.refill, State.step, State.command}
+use Rattle.model.specs.{State.at, State.put, State.each, State.process, State.withProcess, Run.Outcome, Run.share, Run.counted, Run.lead, Run.followed, Run.follow}
+use Rattle.model.specs.{Run.turn, Run.ended, Run.settle, Run.run, Run.initial, Message.shown, Message.source, Message.fill, Message.takes, Message.received}
+use Rattle.model.specs.{Message.receive, Message.columns, Message.send, Verdict.written, Verdict.noRoom, Verdict.verdict, Data.Entry, Data.Absent, Data.Key}
+use Rattle.model.specs.{Data.Open, Data.Secret, Data.Command, Data.Call, Data.Neither, Data.Receives, Data.Sends, Data.Level, Data.Low, Data.High, Data.Ending}
+use Rattle.model.specs.{Data.LettersUsed, Data.Verdict, Data.GoesOn, Data.Ends}
 
 -- ---- The laws of levels: all that depends on how many there are
 

@@ -4,18 +4,12 @@ use mathlib.Core.Path.{_≡_, sym, _∙_, ap, ap₂, subst}
 use mathlib.Core.Logic.{_≢_}
 use mathlib.Core.List.{List, [], _∷_}
 use lib.ListN.{length, getD, drop, length-append}
-use native.Mathlib.Omega.{arith}
-use native.Mathlib.Nat.{suc-inj}
-use Rattle.model.specs.Job.{Job}
-use Rattle.model.specs.Run.{Outcome, runJob}
-use Rattle.model.specs.Message.{source}
-use Rattle.model.specs.Output.{lineLength, bytesOf, memoryAfter}
-use Rattle.model.specs.Answer.{leftBy, numbersOf, runSheet}
-use Rattle.model.specs.Secrecy.{OwnedBy, Hidden, Indistinguishable, SecrecyOf, SheetSecrecyOf}
-use Rattle.model.specs.Data.{Entry, Key, Open, Secret, Level, Low, High, Ending, Counts, Ended}
-use Rattle.model.proofs.Lockstep.{LineLike, RestLike, Same, run-alike, initial-alike, low≢high}
-use Rattle.model.proofs.Output.{split, bytes-at}
-use Rattle.model.proofs.Counted.{counts-of}
+use native.Mathlib.{Omega.arith, Nat.suc-inj}
+use Rattle.model.specs.{Job.Job, Run.Outcome, Run.runJob, Message.source, Line.lineLength, Line.bytesOf, Line.memoryAfter, Answer.leftBy, Answer.numbersOf}
+use Rattle.model.specs.{Answer.runSheet, Secrecy.OwnedBy, Secrecy.Hidden, Secrecy.Indistinguishable, Secrecy.SecrecyOf, Secrecy.SheetSecrecyOf, Data.Entry}
+use Rattle.model.specs.{Data.Key, Data.Open, Data.Secret, Data.Level, Data.Low, Data.High, Data.Ending, Data.Counts, Data.Ended}
+use Rattle.model.proofs.{Lockstep.LineLike, Lockstep.RestLike, Lockstep.Same, Lockstep.run-alike, Lockstep.initial-alike, Lockstep.low≢high, Line.split}
+use Rattle.model.proofs.{Line.bytes-at, Counted.counts-of}
 
 -- a key is o's secret exactly where its column comes from o's execution
 owned-source : (o : Level) (k : Key) → OwnedBy o k → source k ≡ o

@@ -3,8 +3,7 @@ use Prim.Native.Nat.{ℕ, zero, suc, _<_, _≤_}
 use mathlib.Core.Path.{_≡_, refl, ap, _∙_}
 use mathlib.Core.List.{List, [], _∷_, map}
 use native.Mathlib.Omega.{arith}
-use lib.ListN.{length, getD, set, replicate, length-map, List·getD-map}
-use lib.Seq.{take-set-lt, getD-take, length-take-le}
+use lib.{ListN.length, ListN.getD, ListN.set, ListN.replicate, ListN.length-map, ListN.List·getD-map, Seq.take-set-lt, Seq.getD-take, Seq.length-take-le}
 use Rattle.model.specs.Stored.{firstOf}
 
 module _ {S A : Type 0} (f : S → A) where

@@ -2,18 +2,12 @@
 use Prim.Native.Nat.{ℕ, zero, suc, _<_, _≤_}
 use mathlib.Core.Path.{_≡_, refl, ap, subst}
 use mathlib.Core.List.{[]}
-use lib.ListN.{getD}
-use lib.Signed.{mag}
+use lib.{ListN.getD, Signed.mag}
 use native.Mathlib.Omega.{arith}
-use Rattle.model.specs.Job.{Job}
-use Rattle.model.specs.Step.{presence}
-use Rattle.model.specs.Answer.{runSheet}
-use Rattle.model.specs.Secrecy.{OwnedBy, Alike, Indistinguishable}
-use Rattle.model.specs.Accepted.{rowFor, has, kept}
-use Rattle.model.specs.Witness.{keysA, sheet2, sheet3, job2, job3, lent, HiddenAt, Telling, BoundsReached, StopHasNoTarget}
-use Rattle.model.specs.Data.{Absent, Open, Command, High}
-use Rattle.model.proofs.Examples.{opened}
-use Rattle.model.proofs.Secrecy.{secrecy, sheet-secrecy}
+use Rattle.model.specs.{Job.Job, Step.presence, Answer.runSheet, Secrecy.OwnedBy, Secrecy.Alike, Secrecy.Indistinguishable, Accepted.rowFor, Accepted.has}
+use Rattle.model.specs.{Accepted.kept, Witness.keysA, Witness.sheet2, Witness.sheet3, Witness.job2, Witness.job3, Witness.lent, Witness.HiddenAt, Witness.Telling}
+use Rattle.model.specs.{Witness.BoundsReached, Witness.StopHasNoTarget, Data.Absent, Data.Open, Data.Command, Data.High}
+use Rattle.model.proofs.{Examples.opened, Secrecy.secrecy, Secrecy.sheet-secrecy}
 
 alike : Alike High job2 job3
 alike = record { keys = refl; commands = refl; turns = refl; count = refl; entries = go }

@@ -1,20 +1,13 @@
 -- What the job of an accepted sheet satisfies: every number is within its limit, and a command has no operand but its word's.
 use Prim.Native.Nat.{_≤_, ℕ, _<_}
-use lib.IntN.{ℤ, pos}
-use lib.Signed.{mag}
-use lib.Dec.{eqb}
+use lib.{IntN.ℤ, IntN.pos, Signed.mag, Dec.eqb, ListN.length, ListN.getD}
 use mathlib.Core.Bool.{Bool, true, false, cond}
 use mathlib.Core.List.{List, [], _∷_}
 use mathlib.Core.Path.{_≡_}
-use lib.ListN.{length, getD}
-use Rattle.model.specs.Limits.{greatestNumber, variables, mostKeys, mostCommands, mostMessages, mostLetters}
-use Rattle.model.specs.Command.{Row, table}
-use Rattle.model.specs.Job.{Job}
-use Rattle.model.specs.Sheet.{accepted, readSheet}
-use Rattle.model.specs.Parsed.{got}
-use Rattle.model.specs.Pair.{pair}
-use Rattle.model.specs.Data.{Entry, Absent, Number, Key, Open, Secret, Op, Set, Add, Sub, Mul, Div, Read, Has, Put, Drop, IfNeg, IfZero, Jump, Receive, Send, Stop, Command}
-use Rattle.model.specs.Data.{Operand, InV, InW, InK, InT, InN}
+use Rattle.model.specs.{Limits.greatestNumber, Limits.variables, Limits.mostKeys, Limits.mostCommands, Limits.mostMessages, Limits.mostLetters, Command.Row}
+use Rattle.model.specs.{Command.table, Job.Job, Sheet.accepted, Sheet.readSheet, Parsed.got, Pair.pair, Data.Entry, Data.Absent, Data.Number, Data.Key, Data.Open}
+use Rattle.model.specs.{Data.Secret, Data.Op, Data.Set, Data.Add, Data.Sub, Data.Mul, Data.Div, Data.Read, Data.Has, Data.Put, Data.Drop, Data.IfNeg, Data.IfZero}
+use Rattle.model.specs.{Data.Jump, Data.Receive, Data.Send, Data.Stop, Data.Command, Data.Operand, Data.InV, Data.InW, Data.InK, Data.InT, Data.InN}
 
 -- "from -2147483648 to 2147483647": `mag` of a number n is n, and of -(n + 1) it is n too
 abbrev pub InRange : ℤ → Type 0

@@ -1,14 +1,10 @@
 -- What a run of a whole sheet answers, prints and leaves in the memories that are lent to it.
 use Prim.Native.Nat.{ℕ, _*_, zero, suc, _+_, _/_, _%_}
 use mathlib.Core.List.{List, [], _∷_, _++_}
-use lib.ListN.{length, getD, take}
+use lib.{ListN.length, ListN.getD, ListN.take, Dec.ltb, Dec.eqb}
 use mathlib.Core.Bool.{cond}
-use lib.Dec.{ltb, eqb}
-use Rattle.model.specs.Text.{bytes, lineFeed, space, zeroDigit}
-use Rattle.model.specs.Run.{Outcome, runJob}
-use Rattle.model.specs.Output.{memoryAfter}
-use Rattle.model.specs.Sheet.{Reading, refused, accepted, readSheet}
-use Rattle.model.specs.Data.{Ending, Stopped, LettersUsed, NoRoom, Answer, Ended, Refused}
+use Rattle.model.specs.{Text.bytes, Text.lineFeed, Text.space, Text.zeroDigit, Run.Outcome, Run.runJob, Line.memoryAfter, Sheet.Reading, Sheet.refused}
+use Rattle.model.specs.{Sheet.accepted, Sheet.readSheet, Data.Ending, Data.Stopped, Data.LettersUsed, Data.NoRoom, Data.Answer, Data.Ended, Data.Refused}
 
 -- the number of an ending, "From the state"
 abbrev pub endingNumber : Ending → ℕ

@@ -1,8 +1,7 @@
 -- The arithmetic of the commands, over the integers.
 use Prim.Native.Nat.{pred, zero, suc}
-use lib.IntN.{ℤ, negsuc, pos, _+ℤ_, _-ℤ_, _*ℤ_}
+use lib.{IntN.ℤ, IntN.negsuc, IntN.pos, IntN._+ℤ_, IntN._-ℤ_, IntN._*ℤ_, Signed.ltZ, Signed.quotZ}
 use mathlib.Core.Bool.{cond, Bool, true, false}
-use lib.Signed.{ltZ, quotZ}
 use Rattle.model.specs.Limits.{leastNumber, greatestNumber}
 
 -- "from -2147483648 to 2147483647"

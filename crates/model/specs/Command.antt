@@ -2,15 +2,11 @@
 use mathlib.Core.List.{List, [], _∷_}
 use Prim.Native.Nat.{ℕ, _-_}
 use Prim.Native.String.{String}
-use lib.IntN.{pos}
+use lib.{IntN.pos, Dec.eqb, ListN.length}
 use mathlib.Core.Bool.{cond}
-use lib.Dec.{eqb}
-use lib.ListN.{length}
-use Rattle.model.specs.Text.{bytes, same, split, space}
-use Rattle.model.specs.Limits.{variables}
-use Rattle.model.specs.Parsed.{Parsed, got, _>>=_, refused}
-use Rattle.model.specs.Number.{upTo, number}
-use Rattle.model.specs.Data.{Op, Set, Add, Sub, Mul, Div, Read, Has, Put, Drop, IfNeg, IfZero, Jump, Receive, Send, Stop, Command, Operand, InV, InW, InK, InT, InN}
+use Rattle.model.specs.{Text.bytes, Text.same, Text.split, Text.space, Limits.variables, Parsed.Parsed, Parsed.got, Parsed._>>=_, Parsed.refused, Number.upTo}
+use Rattle.model.specs.{Number.number, Data.Op, Data.Set, Data.Add, Data.Sub, Data.Mul, Data.Div, Data.Read, Data.Has, Data.Put, Data.Drop, Data.IfNeg, Data.IfZero}
+use Rattle.model.specs.{Data.Jump, Data.Receive, Data.Send, Data.Stop, Data.Command, Data.Operand, Data.InV, Data.InW, Data.InK, Data.InT, Data.InN}
 
 -- A row of the table: the word, its meaning's name, and what its parts are, from left to right
 pub record Row : Type 0 where

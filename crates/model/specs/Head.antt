@@ -1,13 +1,8 @@
 -- The first lines of a sheet: `sheet`, `keys` and `secret`.
 use mathlib.Core.List.{List}
 use Prim.Native.Nat.{ℕ}
-use Rattle.model.specs.Parsed.{Parsed}
-use Rattle.model.specs.Number.{fromOne}
-use Rattle.model.specs.Text.{bytes}
-use Rattle.model.specs.Phase.{Phase, one, many}
-use Rattle.model.specs.Limits.{mostKeys}
-use Rattle.model.specs.Pair.{ByKey, everywhere, part}
-use Rattle.model.specs.Data.{Key, Open, Secret}
+use Rattle.model.specs.{Parsed.Parsed, Number.fromOne, Text.bytes, Phase.Phase, Phase.one, Phase.many, Limits.mostKeys, Pair.ByKey, Pair.everywhere, Pair.part}
+use Rattle.model.specs.{Data.Key, Data.Open, Data.Secret}
 
 -- "`sheet=1`, once." Refusal 4 names "the 1 of `sheet`".
 unfoldable pub sheetLine : List ℕ → Parsed ℕ

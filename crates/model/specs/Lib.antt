@@ -18,7 +18,7 @@ pub mod Arith
 pub mod Step
 pub mod State
 pub mod Message
-pub mod Output
+pub mod Line
 pub mod Verdict
 pub mod Run
 pub mod Answer

@@ -1,12 +1,8 @@
 -- The `msg` lines.
 use mathlib.Core.List.{List, [], _∷_}
 use Prim.Native.Nat.{ℕ}
-use Rattle.model.specs.Parsed.{Parsed, got, _>>=_}
-use Rattle.model.specs.Pair.{ByKey, part, everywhere}
-use Rattle.model.specs.Text.{split, comma, bytes}
-use Rattle.model.specs.Limits.{mostMessages}
-use Rattle.model.specs.Phase.{Phase, many, oneMore}
-use Rattle.model.specs.Data.{Entry, Absent, Number}
+use Rattle.model.specs.{Parsed.Parsed, Parsed.got, Parsed._>>=_, Pair.ByKey, Pair.part, Pair.everywhere, Text.split, Text.comma, Text.bytes, Limits.mostMessages}
+use Rattle.model.specs.{Phase.Phase, Phase.many, Phase.oneMore, Data.Entry, Data.Absent, Data.Number}
 
 -- "Parts run from left to right."
 unfoldable pub parts : ℕ → ByKey Entry → List (List ℕ) → Parsed (ByKey Entry)

@@ -3,11 +3,9 @@
 use mathlib.Core.Bool.{cond}
 use mathlib.Core.List.{List, [], _∷_}
 use Prim.Native.Nat.{ℕ, _+_, _*_, _-_, pred}
-use lib.Dec.{eqb, leb}
-use lib.IntN.{ℤ, negsuc, pos}
-use Rattle.model.specs.Parsed.{Parsed, got, refused, need, _>>_, _>>=_}
-use Rattle.model.specs.Text.{classOf, digitClass, minus, zeroDigit}
-use Rattle.model.specs.Limits.{leastNumber, greatestNumber}
+use lib.{Dec.eqb, Dec.leb, IntN.ℤ, IntN.negsuc, IntN.pos}
+use Rattle.model.specs.{Parsed.Parsed, Parsed.got, Parsed.refused, Parsed.need, Parsed._>>_, Parsed._>>=_, Text.classOf, Text.digitClass, Text.minus}
+use Rattle.model.specs.{Text.zeroDigit, Limits.leastNumber, Limits.greatestNumber}
 
 -- the value of digits after those that make a
 unfoldable pub digits : ℕ → List ℕ → Parsed ℕ

@@ -1,12 +1,8 @@
 -- One `key:value`, as a `secret` line holds one and a `msg` line several. K is the count of keys.
 use mathlib.Core.List.{List}
 use Prim.Native.Nat.{ℕ, _-_, _+_}
-use lib.Dec.{leb}
-use lib.IntN.{ℤ}
-use lib.ListN.{replicate, set}
-use Rattle.model.specs.Parsed.{Parsed, got, need, _>>=_, _>>_}
-use Rattle.model.specs.Text.{divide, colon}
-use Rattle.model.specs.Number.{upTo, number}
+use lib.{Dec.leb, IntN.ℤ, ListN.replicate, ListN.set}
+use Rattle.model.specs.{Parsed.Parsed, Parsed.got, Parsed.need, Parsed._>>=_, Parsed._>>_, Text.divide, Text.colon, Number.upTo, Number.number}
 
 -- One `key:value`, its key at least next. "In a `key:value` part the colon and key come first (4), then the order (5), then the value (4).
 -- The first colon of a part divides it."

@@ -1,11 +1,9 @@
 -- "The lines come in this order": a phase reads the lines of one name, and hands on what it read, the number of the next line, and the lines left.
 use mathlib.Core.List.{List, [], _∷_, _++_}
 use Prim.Native.Nat.{ℕ, _+_}
-use lib.Dec.{ltb}
-use lib.ListN.{length}
+use lib.{Dec.ltb, ListN.length}
 use Rattle.model.specs.Parsed as Parsed
-use Rattle.model.specs.Parsed.{Parsed, need, _>>=_, _>>_}
-use Rattle.model.specs.Text.{same, divide, equalsSign}
+use Rattle.model.specs.{Parsed.Parsed, Parsed.need, Parsed._>>=_, Parsed._>>_, Text.same, Text.divide, Text.equalsSign}
 
 -- read, the number of the next line, the lines left; or a refusal's number and line
 pub data Phase (A : Type 0) : Type 0 where

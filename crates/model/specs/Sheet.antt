@@ -2,18 +2,10 @@
 use Prim.Native.Nat.{ℕ, _+_}
 use mathlib.Core.List.{List, [], _∷_}
 use mathlib.Core.Bool.{cond, Bool, false}
-use lib.Dec.{ltb, eqb, leb}
-use lib.ListN.{length}
-use Rattle.model.specs.Job.{Job}
+use lib.{Dec.ltb, Dec.eqb, Dec.leb, ListN.length}
+use Rattle.model.specs.{Job.Job, Phase.Phase, Head.readFirst, Head.readKeys, Head.readSecrets, Program.readCommands, Messages.readMessages, Turns.readTurns}
+use Rattle.model.specs.{Text.classOf, Text.forbiddenClass, Text.lineFeed, Text.lines, Text.count, Limits.mostBytes, Data.Key, Data.Command}
 use Rattle.model.specs.Phase as Phase
-use Rattle.model.specs.Phase.{Phase}
-use Rattle.model.specs.Head.{readFirst, readKeys, readSecrets}
-use Rattle.model.specs.Program.{readCommands}
-use Rattle.model.specs.Messages.{readMessages}
-use Rattle.model.specs.Turns.{readTurns}
-use Rattle.model.specs.Text.{classOf, forbiddenClass, lineFeed, lines, count}
-use Rattle.model.specs.Limits.{mostBytes}
-use Rattle.model.specs.Data.{Key, Command}
 
 -- "A sheet is accepted exactly when no refusal from the input other than 10 applies to it."
 pub data Reading : Type 0 where

@@ -1,12 +1,9 @@
 -- The state of a run: two executions, each with its own fields of the one message, and what is common to them.
 use mathlib.Core.List.{List}
 use Prim.Native.Nat.{ℕ}
-use lib.ListN.{getD, set, length}
+use lib.{ListN.getD, ListN.set, ListN.length, Dec.leb}
 use mathlib.Core.Bool.{Bool}
-use lib.Dec.{leb}
-use Rattle.model.specs.Step.{does}
-use Rattle.model.specs.Command.{blank}
-use Rattle.model.specs.Data.{Entry, Absent, Set, Command, Level, Low, High, Execution, Stepped}
+use Rattle.model.specs.{Step.does, Command.blank, Data.Entry, Data.Absent, Data.Set, Data.Command, Data.Level, Data.Low, Data.High, Data.Execution, Data.Stepped}
 
 -- ---- One execution on its own fields
 

@@ -1,13 +1,10 @@
 -- One command of one execution: what it makes of the execution's record and of the one entry that it may read or change.
-use lib.IntN.{ℤ, pos}
+use lib.{IntN.ℤ, IntN.pos, ListN.getD, ListN.set, ListN.replicate, Signed.ltZ}
 use Prim.Native.Nat.{ℕ, _+_}
-use lib.ListN.{getD, set, replicate}
 use mathlib.Core.Bool.{cond}
-use lib.Signed.{ltZ}
-use Rattle.model.specs.Limits.{variables}
-use Rattle.model.specs.Arith.{sum, difference, product, quotient, isZero}
-use Rattle.model.specs.Data.{Entry, Absent, Number, Op, Set, Add, Sub, Mul, Div, Read, Has, Put, Drop, IfNeg, IfZero, Jump, Receive, Send, Stop, Command, Call, Neither}
-use Rattle.model.specs.Data.{Receives, Sends, Execution, Stepped}
+use Rattle.model.specs.{Limits.variables, Arith.sum, Arith.difference, Arith.product, Arith.quotient, Arith.isZero, Data.Entry, Data.Absent, Data.Number, Data.Op}
+use Rattle.model.specs.{Data.Set, Data.Add, Data.Sub, Data.Mul, Data.Div, Data.Read, Data.Has, Data.Put, Data.Drop, Data.IfNeg, Data.IfZero, Data.Jump}
+use Rattle.model.specs.{Data.Receive, Data.Send, Data.Stop, Data.Command, Data.Call, Data.Neither, Data.Receives, Data.Sends, Data.Execution, Data.Stepped}
 
 -- "v becomes the entry at k, 0 if absent"
 abbrev pub numberOf : Entry → ℤ

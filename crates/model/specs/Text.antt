@@ -4,8 +4,7 @@ use Prim.Native.Nat.{ℕ, suc}
 use Prim.Native.Char.{code}
 use Prim.Native.String.{String, [] as none, _∷_ as _∷ˢ_}
 use mathlib.Core.Bool.{Bool, _&&_, cond, true, false}
-use lib.Dec.{leb, eqb, ltb}
-use lib.ListN.{length, take, drop}
+use lib.{Dec.leb, Dec.eqb, Dec.ltb, ListN.length, ListN.take, ListN.drop}
 use Rattle.model.specs.Parsed.{Parsed, got, refused}
 
 -- the bytes of a word or a text that is written out here

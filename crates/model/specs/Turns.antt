@@ -1,15 +1,11 @@
 -- The line `turns`, and nothing after it.
 use Prim.Native.Nat.{ℕ}
 use mathlib.Core.Bool.{cond}
-use lib.Dec.{eqb, leb}
+use lib.{Dec.eqb, Dec.leb, ListN.length}
 use mathlib.Core.List.{List, [], _∷_}
-use lib.ListN.{length}
-use Rattle.model.specs.Parsed.{Parsed, got, refused, _>>=_, need, _>>_}
-use Rattle.model.specs.Limits.{mostLetters}
-use Rattle.model.specs.Text.{bytes}
+use Rattle.model.specs.{Parsed.Parsed, Parsed.got, Parsed.refused, Parsed._>>=_, Parsed.need, Parsed._>>_, Limits.mostLetters, Text.bytes, Phase.Phase, Phase.one}
+use Rattle.model.specs.{Data.Level, Data.Low, Data.High}
 use Rattle.model.specs.Phase as Phase
-use Rattle.model.specs.Phase.{Phase, one}
-use Rattle.model.specs.Data.{Level, Low, High}
 
 -- the letters `L` and `H`
 abbrev pub letterL : ℕ

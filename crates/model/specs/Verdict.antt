@@ -1,13 +1,11 @@
 -- What is found before a turn: one of the endings "From the state", or that the turn is taken; and whether a high execution's turn passes idle.
 use Prim.Native.Nat.{ℕ, _*_, _-_}
 use mathlib.Core.List.{List, [], _∷_}
-use lib.ListN.{length}
+use lib.{ListN.length, Dec.ltb, Dec.leb}
 use mathlib.Core.Bool.{Bool, false, true, cond}
-use lib.Dec.{ltb, leb}
-use Rattle.model.specs.State.{State, command, process, stopped}
-use Rattle.model.specs.Output.{lineLength}
-use Rattle.model.specs.Step.{callOf}
-use Rattle.model.specs.Data.{Key, Command, Call, Neither, Receives, Sends, Level, Low, High, Stopped, LettersUsed, NoRoom, Verdict, GoesOn, Ends}
+use Rattle.model.specs.{State.State, State.command, State.process, State.stopped, Line.lineLength, Step.callOf, Data.Key, Data.Command, Data.Call, Data.Neither}
+use Rattle.model.specs.{Data.Receives, Data.Sends, Data.Level, Data.Low, Data.High, Data.Stopped, Data.LettersUsed, Data.NoRoom, Data.Verdict, Data.GoesOn}
+use Rattle.model.specs.{Data.Ends}
 
 -- "Bytes written is 10 + 12 × K for each line sent."
 unfoldable pub written : List Key → State → ℕ

@@ -4,17 +4,10 @@ use Prim.Native.Nat.{ℕ, _≤_}
 use mathlib.Core.Path.{_≡_}
 use mathlib.Core.Logic.{_≢_}
 use mathlib.Core.List.{List, [], _∷_}
-use lib.IntN.{pos, negsuc}
-use lib.ListN.{length, getD, replicate}
-use Rattle.model.specs.Command.{blank}
-use Rattle.model.specs.Job.{Job}
-use Rattle.model.specs.Sheet.{accepted, readSheet}
-use Rattle.model.specs.Run.{runJob}
-use Rattle.model.specs.Answer.{numbersOf, bytesWritten, leftBy, runSheet}
-use Rattle.model.specs.Secrecy.{Alike, Hidden, Indistinguishable}
-use Rattle.model.specs.Accepted.{Bare}
-use Rattle.model.specs.Examples.{sheetA, lentByRunsheet}
-use Rattle.model.specs.Data.{Entry, Absent, Number, Key, Open, Secret, Read, Put, Receive, Send, Stop, Level, Low, High}
+use lib.{IntN.pos, IntN.negsuc, ListN.length, ListN.getD, ListN.replicate}
+use Rattle.model.specs.{Command.blank, Job.Job, Sheet.accepted, Sheet.readSheet, Run.runJob, Answer.numbersOf, Answer.bytesWritten, Answer.leftBy, Answer.runSheet}
+use Rattle.model.specs.{Secrecy.Alike, Secrecy.Hidden, Secrecy.Indistinguishable, Accepted.Bare, Examples.sheetA, Examples.lentByRunsheet, Data.Entry, Data.Absent}
+use Rattle.model.specs.{Data.Number, Data.Key, Data.Open, Data.Secret, Data.Read, Data.Put, Data.Receive, Data.Send, Data.Stop, Data.Level, Data.Low, Data.High}
 
 -- ---- What sheet A says, with this entry at the secret key of its message, and these letters
 

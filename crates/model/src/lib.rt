@@ -5,10 +5,8 @@
 ghost use mathlib.Core.Path.{_≡_};
 ghost use Prim.Native.Nat.{_<_};
 ghost use lib.ListN.{replicate};
-ghost use Rattle.model.specs.Limits.{variables};
-ghost use Rattle.model.specs.Command.{blank};
-ghost use Rattle.model.specs.Step.{begun as Execution·begun, afterOf, calledOf};
-ghost use Rattle.model.specs.Stored.{keyCapacity, commandCapacity, messageCapacity, openSlot, absentSlot, blankLine, nothingStored};
+ghost use Rattle.model.specs.{Limits.variables, Command.blank, Step.begun as Execution·begun, Step.afterOf, Step.calledOf, Stored.keyCapacity};
+ghost use Rattle.model.specs.{Stored.commandCapacity, Stored.messageCapacity, Stored.openSlot, Stored.absentSlot, Stored.blankLine, Stored.nothingStored};
 ghost use Rattle.model.specs.declared.Op.the-variants.{Stop};
 
 // The limits of a sheet.

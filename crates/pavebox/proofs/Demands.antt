@@ -4,19 +4,12 @@ use mathlib.Core.Path.{_≡_, refl, sym, ap, _∙_}
 use mathlib.Core.List.{List, []}
 use native.Mathlib.Omega.{arith}
 use lib.ListN.{length, getD, length-append, length-drop}
-use Rattle.model.specs.Answer.{After, Left, numbersOf, allLe32, answeredBy, leftBy, runSheet, runEntry, le32}
-use Rattle.model.specs.Job.{Job}
-use Rattle.model.specs.Output.{bytesOf, memoryAfter}
+use Rattle.model.specs.{Answer.After, Answer.Left, Answer.numbersOf, Answer.allLe32, Answer.answeredBy, Answer.leftBy, Answer.runSheet, Answer.runEntry, Answer.le32}
+use Rattle.model.specs.{Job.Job, Line.bytesOf, Line.memoryAfter, Sheet.Reading, Sheet.accepted, Sheet.readSheet, Run.runJob, Secrecy.Indistinguishable, Witness.sheet2}
+use Rattle.model.specs.{Witness.sheet3, Witness.job2, Witness.job3, Witness.lent}
 use Rattle.model.specs.Sheet as Sheet
-use Rattle.model.specs.Sheet.{Reading, accepted, readSheet}
-use Rattle.model.specs.Run.{runJob}
-use Rattle.model.specs.Secrecy.{Indistinguishable}
 use Rattle.model.specs.declared.Level.the-variants.{High}
-use Rattle.model.specs.Witness.{sheet2, sheet3, job2, job3, lent}
-use Rattle.model.proofs.Counted.{counts-of}
-use Rattle.model.proofs.Examples.{opened}
-use Rattle.model.proofs.Secrecy.{secrecy}
-use Rattle.model.proofs.Witness.{telling as witness}
+use Rattle.model.proofs.{Counted.counts-of, Examples.opened, Secrecy.secrecy, Witness.telling as witness}
 use Rattle.whole_sheet.proofs.Laws.{accepted-left, refused-left}
 use Rattle.pavebox.proofs.Laws.{entry-sized}
 use Rattle.pavebox.specs.Demands.{Called, Demand2, Demand1Holds, Demand2Holds, Demand3Holds, answerLent, CalledOn, Telling}

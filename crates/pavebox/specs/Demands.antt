@@ -4,16 +4,11 @@ use mathlib.Core.Path.{_≡_}
 use mathlib.Core.Logic.{_≢_}
 use mathlib.Core.List.{List, [], _++_}
 use lib.ListN.{length, getD, drop, replicate}
-use Rattle.model.specs.Answer.{After, numbersOf, allLe32, answerBytes, runSheet, runEntry}
-use Rattle.model.specs.Job.{Job}
-use Rattle.model.specs.Output.{bytesOf}
+use Rattle.model.specs.{Answer.After, Answer.numbersOf, Answer.allLe32, Answer.answerBytes, Answer.runSheet, Answer.runEntry, Job.Job, Line.bytesOf, Sheet.accepted}
+use Rattle.model.specs.{Sheet.readSheet, Run.runJob, Secrecy.Alike, Secrecy.Hidden, Witness.sheet2, Witness.sheet3, Witness.otherSheet, Witness.job2, Witness.job3}
+use Rattle.model.specs.{Witness.lent}
 use Rattle.model.specs.Sheet as Sheet
-use Rattle.model.specs.Sheet.{accepted, readSheet}
-use Rattle.model.specs.Run.{runJob}
-use Rattle.model.specs.Secrecy.{Alike, Hidden}
-use Rattle.model.specs.Witness.{sheet2, sheet3, otherSheet, job2, job3, lent}
-use Rattle.model.specs.declared.Level.the-variants.{High}
-use Rattle.model.specs.declared.Answer.the-variants.{Refused}
+use Rattle.model.specs.declared.{Level.the-variants.High, Answer.the-variants.Refused}
 use Rattle.pavebox.specs.Entry.{Answered}
 
 -- A call with an answer memory of 24 bytes

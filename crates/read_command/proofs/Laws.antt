@@ -3,26 +3,19 @@ use mathlib.Core.Path.{_≡_, refl, sym, ap, _∙_}
 use mathlib.Core.List.{List, [], _∷_}
 use Prim.Native.Nat.{ℕ, _+_, _-_, _<_, _≤_}
 use native.Mathlib.Omega.{arith}
-use lib.IntN.{pos}
-use lib.ListN.{length, take, drop}
-use lib.Seq.{take-all}
+use lib.{IntN.pos, ListN.length, ListN.take, ListN.drop, Seq.take-all}
 use borrow.Author.Tests.{ne-eqb, le-ltb, lt-ltb}
-use Rattle.model.specs.Limits.{variables}
-use Rattle.model.specs.Parsed.{Parsed, got, refused, _>>=_}
-use Rattle.model.specs.Text.{find, space, split}
-use Rattle.model.specs.Number.{upTo, number}
-use Rattle.model.specs.Command.{Row, Limits, table, blank, operand, operands, byRow, rowOf, words, readCommand}
-use Rattle.model.specs.declared.Op.{Op}
-use Rattle.model.specs.declared.Command.{Command}
-use Rattle.model.specs.declared.Operand.{Operand}
-use Rattle.model.specs.declared.Operand.the-variants.{InV, InW, InK, InT, InN}
+use Rattle.model.specs.{Limits.variables, Parsed.Parsed, Parsed.got, Parsed.refused, Parsed._>>=_, Text.find, Text.space, Text.split, Number.upTo, Number.number}
+use Rattle.model.specs.{Command.Row, Command.Limits, Command.table, Command.blank, Command.operand, Command.operands, Command.byRow, Command.rowOf, Command.words}
+use Rattle.model.specs.{Command.readCommand}
+use Rattle.model.specs.declared.{Op.Op, Command.Command, Operand.Operand, Operand.the-variants.InV, Operand.the-variants.InW, Operand.the-variants.InK}
+use Rattle.model.specs.declared.{Operand.the-variants.InT, Operand.the-variants.InN}
 use Rattle.model.proofs.Accepted.{up-to-bound}
-use Rattle.read_text.proofs.Laws.{rest}
-use Rattle.read_text.proofs.Lines.{split-end, split-at, split-first, split-some}
-use Rattle.read_command.specs.Code.{saidBy, lookup}
-use Rattle.read_command.specs.Command.{shapeAs, single, halves, cutAt, oneOf, twoOf, mapped, commandOf, withNumber}
-use Rattle.read_command.specs.declared.Shape.{Shape}
-use Rattle.read_command.specs.declared.Shape.the-variants.{K, T, VN, VW, VK, KV, VT}
+use Rattle.read_text.proofs.{Laws.rest, Lines.split-end, Lines.split-at, Lines.split-first, Lines.split-some}
+use Rattle.read_command.specs.{Code.saidBy, Code.lookup, Command.shapeAs, Command.single, Command.halves, Command.cutAt, Command.oneOf, Command.twoOf}
+use Rattle.read_command.specs.{Command.mapped, Command.commandOf, Command.withNumber}
+use Rattle.read_command.specs.declared.{Shape.Shape, Shape.the-variants.K, Shape.the-variants.T, Shape.the-variants.VN, Shape.the-variants.VW}
+use Rattle.read_command.specs.declared.{Shape.the-variants.VK, Shape.the-variants.KV, Shape.the-variants.VT}
 
 -- what an answer r stands for, z, where the answer is found to be a
 pub answered : {A B : Type 0} (f : A → B) {r a : A} {z : B} → f r ≡ z → r ≡ a → z ≡ f a

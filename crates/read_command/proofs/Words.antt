@@ -3,19 +3,11 @@ use mathlib.Core.Path.{_≡_, refl, sym, ap, _∙_}
 use mathlib.Core.Bool.{Bool, true, false, cond, _&&_, true≢false}
 use mathlib.Core.List.{List, [], _∷_, _++_}
 use Prim.Native.Nat.{ℕ, zero, suc, _+_, _-_, _*_, _%_, _<_, _≤_}
-use native.Mathlib.Numerals.{add-one}
-use native.Mathlib.Omega.{arith}
-use native.Mathlib.Decide.{decLt}
-use native.Mathlib.Nat.{mod-eq-of-lt, suc-add, zero-add}
-use lib.Dec.{eqb, ltb, leb}
-use lib.ListN.{length, getD, take}
-use lib.Seq.{take-suc, length-take-le}
+use native.Mathlib.{Numerals.add-one, Omega.arith, Decide.decLt, Nat.mod-eq-of-lt, Nat.suc-add, Nat.zero-add}
+use lib.{Dec.eqb, Dec.ltb, Dec.leb, ListN.length, ListN.getD, ListN.take, Seq.take-suc, Seq.length-take-le}
 use borrow.Author.Tests.{eq-eqb, ne-eqb, eqb-true, lt-ltb, le-ltb, ltb-true, leb-true}
-use Rattle.model.specs.Parsed.{got, refused, _>>=_}
-use Rattle.model.specs.Text.{bytes, same}
-use Rattle.model.specs.Command.{Row, table, rowOf}
-use Rattle.read_text.proofs.Laws.{and-both}
-use Rattle.read_text.proofs.Lines.{same-refl}
+use Rattle.model.specs.{Parsed.got, Parsed.refused, Parsed._>>=_, Text.bytes, Text.same, Command.Row, Command.table, Command.rowOf}
+use Rattle.read_text.proofs.{Laws.and-both, Lines.same-refl}
 use Rattle.read_command.specs.Code.{longestWord, sixBytes, packed, withCount, codeOf, saidBy, lookup, lookupCode}
 
 -- ---- Packing a word, byte by byte

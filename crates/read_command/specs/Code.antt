@@ -2,12 +2,9 @@
 use mathlib.Core.Bool.{cond}
 use mathlib.Core.List.{List, [], _∷_}
 use Prim.Native.Nat.{ℕ, _+_, _*_}
-use lib.Dec.{eqb, ltb}
-use lib.ListN.{length}
-use Rattle.model.specs.Parsed.{Parsed, got, refused, _>>=_}
-use Rattle.model.specs.Command.{Row, table, rowOf}
-use Rattle.model.specs.declared.Op.{Op}
-use Rattle.model.specs.declared.Operand.{Operand}
+use lib.{Dec.eqb, Dec.ltb, ListN.length}
+use Rattle.model.specs.{Parsed.Parsed, Parsed.got, Parsed.refused, Parsed._>>=_, Command.Row, Command.table, Command.rowOf}
+use Rattle.model.specs.declared.{Op.Op, Operand.Operand}
 
 -- no word of the table has more bytes
 abbrev pub longestWord : ℕ

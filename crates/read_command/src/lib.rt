@@ -12,15 +12,13 @@ use read_text::up_to;
 use read_text::wide;
 ghost use mathlib.Core.Path.{_≡_};
 ghost use Prim.Native.Nat.{_<_, _*_, _-_};
-ghost use lib.IntN.{pos};
-ghost use lib.ListN.{take};
-ghost use Rattle.model.specs.Limits.{variables};
-ghost use Rattle.model.specs.Text.{find, space, split};
-ghost use Rattle.model.specs.Number.{number, upTo};
-ghost use Rattle.model.specs.Command.{byRow, limits, readCommand, table};
+ghost use lib.{IntN.pos, ListN.take};
+ghost use Rattle.model.specs.{Limits.variables, Text.find, Text.space, Text.split, Number.number, Number.upTo, Command.byRow, Command.limits, Command.readCommand};
+ghost use Rattle.model.specs.{Command.table};
 ghost use Rattle.read_text.specs.Text.{naturalAs};
-ghost use Rattle.read_command.specs.Code.{codeOf, lookupCode, sixBytes, withCount};
-ghost use Rattle.read_command.specs.Command.{Fair, Fields, commandOf, cutAt, halves, lineAs, mapped, oneOf, shapeAs, twoAs, twoOf, withNumber, wordAs};
+ghost use Rattle.read_command.specs.{Code.codeOf, Code.lookupCode, Code.sixBytes, Code.withCount, Command.Fair, Command.Fields, Command.commandOf, Command.cutAt};
+ghost use Rattle.read_command.specs.{Command.halves, Command.lineAs, Command.mapped, Command.oneOf, Command.shapeAs, Command.twoAs, Command.twoOf};
+ghost use Rattle.read_command.specs.{Command.withNumber, Command.wordAs};
 
 // No word of the table has more bytes.
 const LONGEST_WORD: usize = 7;

@@ -1,15 +1,11 @@
 -- What the readers of the first lines answer: s is the text that one is given, and first the number of its first line.
 use mathlib.Core.List.{List}
 use Prim.Native.Nat.{ℕ, _≤_}
-use Rattle.model.specs.Number.{fromOne}
-use Rattle.model.specs.Phase.{one}
-use Rattle.model.specs.Head.{readSecrets}
-use Rattle.model.specs.Stored.{keyIn}
+use Rattle.model.specs.{Number.fromOne, Phase.one, Head.readSecrets, Stored.keyIn}
 use Rattle.read_text.specs.Text.{Word}
-use Rattle.read_line.specs.Line.{Reads}
+use Rattle.read_line.specs.Phase.{Reads}
 use Rattle.read_pair.specs.Pair.{byKey}
-use Rattle.read_head.specs.declared.NumberLine.{NumberLine}
-use Rattle.read_head.specs.declared.Secrets.{Secrets}
+use Rattle.read_head.specs.declared.{NumberLine.NumberLine, Secrets.Secrets}
 
 -- a line of the name that p has, with a number from 1 to the limit
 pub record NumberRead (p : List ℕ) (limit : ℕ) (s : List ℕ) (first : ℕ) (r : NumberLine) : Type 0 where

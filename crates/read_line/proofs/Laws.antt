@@ -3,21 +3,15 @@ use mathlib.Core.Path.{_≡_, refl, sym, ap, _∙_, subst}
 use mathlib.Core.Bool.{true, false}
 use mathlib.Core.List.{List, [], _∷_, _++_, map, map-append}
 use Prim.Native.Nat.{ℕ, _+_, _-_, _<_, _≤_}
-use native.Mathlib.Decide.{decLt}
-use native.Mathlib.Numerals.{add-one}
-use native.Mathlib.Omega.{arith}
-use lib.ListN.{length, take, drop, set, length-append, length-drop, length-map}
-use lib.Seq.{drop-drop, take-suc-set, length-take-le}
-use Rattle.model.specs.Parsed.{Parsed, got, refused, _>>=_}
-use Rattle.model.specs.Text.{find, lines, equalsSign, lineFeed}
+use native.Mathlib.{Decide.decLt, Numerals.add-one, Omega.arith}
+use lib.{ListN.length, ListN.take, ListN.drop, ListN.set, ListN.length-append, ListN.length-drop, ListN.length-map, Seq.drop-drop, Seq.take-suc-set, Seq.length-take-le}
+use Rattle.model.specs.{Parsed.Parsed, Parsed.got, Parsed.refused, Parsed._>>=_, Text.find, Text.lines, Text.equalsSign, Text.lineFeed, Phase.after, Phase.one}
+use Rattle.model.specs.{Phase.many, Phase.oneMore, Phase.numbered, Phase.onward, Phase.eachLine}
 use Rattle.model.specs.Phase as Model
-use Rattle.model.specs.Phase.{after, one, many, oneMore, numbered, onward, eachLine}
 use Rattle.read_text.specs.Text.{starts, Word}
 use Rattle.read_text.proofs.Lines.{more-full, more-bad, more-ok, lines-none, lines-more, line-none, line-first, starts-take, after-named, after-other}
-use Rattle.read_line.specs.Line.{beside, headed, foundAs, Placed, FirstLine, Reads}
-use Rattle.read_line.specs.declared.Found.{Found}
-use Rattle.read_line.specs.declared.Found.the-variants.{At, Other}
-use Rattle.read_line.specs.declared.Phase.the-variants.{Got, Refused}
+use Rattle.read_line.specs.Phase.{beside, headed, foundAs, Placed, FirstLine, Reads}
+use Rattle.read_line.specs.declared.{Found.Found, Found.the-variants.At, Found.the-variants.Other, Phase.the-variants.Got, Phase.the-variants.Refused}
 
 -- ---- The first line of the text t: where it starts with the name, u is what follows, and e the place of its first line feed
 

@@ -1,7 +1,7 @@
 // The first line of a text by its name, and what the readers of lines answer.
 use read_text::find_byte;
 use read_text::starts_with;
-ghost use Rattle.read_line.specs.Line.{FirstLine};
+ghost use Rattle.read_line.specs.Phase.{FirstLine};
 
 // Where a first line of the name has what follows its equals sign: from a place to that of its line feed. Or the first line is another, or there is none.
 pub enum Found {

@@ -3,17 +3,10 @@ use mathlib.Core.Path.{_≡_, refl, _∙_}
 use mathlib.Core.List.{List, [], _∷_}
 use Prim.Native.Nat.{ℕ, _+_, _<_, _≤_}
 use native.Mathlib.Omega.{arith}
-use lib.IntN.{ℤ}
-use lib.ListN.{length, take, drop, set}
-use lib.Seq.{take-all, drop-drop}
-use Rattle.model.specs.Parsed.{got, refused}
-use Rattle.model.specs.Text.{bytes, comma, find, split}
-use Rattle.model.specs.Pair.{ByKey, pair}
-use Rattle.model.specs.Messages.{allAbsent, parts, message, messageLine}
-use Rattle.model.specs.Stored.{entryIn, firstOf}
-use Rattle.model.specs.declared.Entry.{Entry}
-use Rattle.model.specs.declared.Entry.the-variants.{Number}
-use Rattle.model.specs.declared.EntrySlot.{EntrySlot}
+use lib.{IntN.ℤ, ListN.length, ListN.take, ListN.drop, ListN.set, Seq.take-all, Seq.drop-drop}
+use Rattle.model.specs.{Parsed.got, Parsed.refused, Text.bytes, Text.comma, Text.find, Text.split, Pair.ByKey, Pair.pair, Messages.allAbsent, Messages.parts}
+use Rattle.model.specs.{Messages.message, Messages.messageLine, Stored.entryIn, Stored.firstOf}
+use Rattle.model.specs.declared.{Entry.Entry, Entry.the-variants.Number, EntrySlot.EntrySlot}
 use Rattle.read_text.specs.Text.{free, Word}
 use Rattle.read_text.proofs.Lines.{split-end, split-at, split-first}
 use Rattle.read_pair.specs.Pair.{byKey}

@@ -2,13 +2,10 @@
 use mathlib.Core.List.{List, map}
 use Prim.Native.Nat.{ℕ, _≤_}
 use lib.ListN.{length, take}
-use Rattle.model.specs.Parsed.{Parsed}
-use Rattle.model.specs.Messages.{readMessages}
-use Rattle.model.specs.Stored.{entriesIn}
+use Rattle.model.specs.{Parsed.Parsed, Messages.readMessages, Stored.entriesIn}
 use Rattle.model.specs.declared.Entry.{Entry}
-use Rattle.read_line.specs.Line.{Reads, checkedAs}
-use Rattle.read_messages.specs.declared.Message.{Message}
-use Rattle.read_messages.specs.declared.Messages.{Messages}
+use Rattle.read_line.specs.Phase.{Reads, checkedAs}
+use Rattle.read_messages.specs.declared.{Message.Message, Messages.Messages}
 
 abbrev pub messageAs : ℕ → Message → Parsed (List Entry)
 messageAs K m = checkedAs (m .checked) (entriesIn K (m .line))

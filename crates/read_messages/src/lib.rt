@@ -15,8 +15,7 @@ use read_text::find_byte;
 ghost use mathlib.Core.Path.{_≡_};
 ghost use Prim.Native.Nat.{_+_, _<_, _≤_};
 ghost use lib.ListN.{length};
-ghost use Rattle.model.specs.Messages.{messageLine};
-ghost use Rattle.model.specs.Stored.{keyCapacity};
+ghost use Rattle.model.specs.{Messages.messageLine, Stored.keyCapacity};
 ghost use Rattle.read_messages.specs.Messages.{messageAs, MessagesRead};
 
 // A message line, which counts where it was read.

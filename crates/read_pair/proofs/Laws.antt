@@ -3,15 +3,10 @@ use mathlib.Core.Path.{_≡_, ap}
 use mathlib.Core.List.{List}
 use Prim.Native.Nat.{ℕ, _+_, _-_, _<_, _≤_}
 use native.Mathlib.Numerals.{add-one}
-use lib.IntN.{ℤ}
-use lib.ListN.{length, take, drop, set, replicate}
+use lib.{IntN.ℤ, ListN.length, ListN.take, ListN.drop, ListN.set, ListN.replicate}
 use borrow.Author.Tests.{lt-ltb, le-ltb, le-leb, lt-leb}
-use Rattle.model.specs.Parsed.{got, refused}
-use Rattle.model.specs.Text.{colon, find, divide}
-use Rattle.model.specs.Number.{upTo, number}
-use Rattle.model.specs.Pair.{everywhere, pair, part}
-use Rattle.model.proofs.Accepted.{keys-rise}
-use Rattle.model.proofs.Stored.{first-set, first-same}
+use Rattle.model.specs.{Parsed.got, Parsed.refused, Text.colon, Text.find, Text.divide, Number.upTo, Number.number, Pair.everywhere, Pair.pair, Pair.part}
+use Rattle.model.proofs.{Accepted.keys-rise, Stored.first-set, Stored.first-same}
 use Rattle.read_pair.specs.Pair.{byKey}
 
 -- ---- One `key:value`

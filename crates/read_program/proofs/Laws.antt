@@ -2,23 +2,15 @@
 use mathlib.Core.Path.{_≡_, refl, sym, ap, _∙_}
 use mathlib.Core.List.{List, [], _∷_, map}
 use Prim.Native.Nat.{ℕ, _+_, _<_, _≤_, zero-le}
-use native.Mathlib.Numerals.{add-one}
-use native.Mathlib.Omega.{arith}
-use lib.ListN.{length, take, drop, getD, drop-of-length-le}
-use lib.Seq.{drop-cons, getD-take, length-take-le}
+use native.Mathlib.{Numerals.add-one, Omega.arith}
+use lib.{ListN.length, ListN.take, ListN.drop, ListN.getD, ListN.drop-of-length-le, Seq.drop-cons, Seq.getD-take, Seq.length-take-le}
 use borrow.Author.Tests.{lt-ltb, le-ltb}
-use Rattle.model.specs.Limits.{mostCommands}
-use Rattle.model.specs.Text.{bytes, lines}
-use Rattle.model.specs.Command.{limits, readCommand}
-use Rattle.model.specs.Job.{Job}
+use Rattle.model.specs.{Limits.mostCommands, Text.bytes, Text.lines, Command.limits, Command.readCommand, Job.Job, Phase.many, Phase.oneMore, Phase.some}
+use Rattle.model.specs.{Program.readCommands, Sheet.targets, Stored.commandCapacity}
 use Rattle.model.specs.Phase as Model
-use Rattle.model.specs.Phase.{many, oneMore, some}
-use Rattle.model.specs.Program.{readCommands}
-use Rattle.model.specs.Sheet.{targets}
-use Rattle.model.specs.Stored.{commandCapacity}
 use Rattle.model.specs.declared.Command.{Command}
 use Rattle.read_text.specs.Text.{free, Word}
-use Rattle.read_line.specs.Line.{Reads}
+use Rattle.read_line.specs.Phase.{Reads}
 use Rattle.read_program.specs.Program.{FirstFar}
 use Rattle.read_line.specs.declared.Phase.the-variants.{Got, Refused}
 

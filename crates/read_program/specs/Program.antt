@@ -3,14 +3,10 @@ use mathlib.Core.Path.{_≡_}
 use mathlib.Core.Bool.{cond}
 use mathlib.Core.List.{List}
 use Prim.Native.Nat.{ℕ, _+_, _≤_}
-use lib.Dec.{ltb}
-use lib.ListN.{length, take}
-use Rattle.model.specs.Job.{Job}
-use Rattle.model.specs.Program.{readCommands}
-use Rattle.model.specs.Sheet.{accepted, refused, targets}
-use Rattle.model.specs.Stored.{commandCapacity}
+use lib.{Dec.ltb, ListN.length, ListN.take}
+use Rattle.model.specs.{Job.Job, Program.readCommands, Sheet.accepted, Sheet.refused, Sheet.targets, Stored.commandCapacity}
 use Rattle.model.specs.declared.Command.{Command}
-use Rattle.read_line.specs.Line.{Reads}
+use Rattle.read_line.specs.Phase.{Reads}
 use Rattle.read_program.specs.declared.Commands.{Commands}
 
 pub record CommandsRead (K : ℕ) (s : List ℕ) (first : ℕ) (r : Commands) : Type 0 where

@@ -4,34 +4,21 @@ use mathlib.Core.Bool.{Bool, true, false, cond}
 use mathlib.Core.List.{List, [], _∷_}
 use Prim.Native.Nat.{ℕ, suc, _+_, _-_, _<_, _≤_}
 use native.Mathlib.Omega.{arith}
-use lib.Dec.{eqb}
-use lib.ListN.{length, take, drop, length-drop}
+use lib.{Dec.eqb, ListN.length, ListN.take, ListN.drop, ListN.length-drop}
 use borrow.Author.Tests.{lt-ltb, le-ltb, le-leb, lt-leb}
-use Rattle.model.specs.Limits.{mostBytes, mostKeys}
-use Rattle.model.specs.Text.{bytes, lines, count, classOf, lineFeed}
+use Rattle.model.specs.{Limits.mostBytes, Limits.mostKeys, Text.bytes, Text.lines, Text.count, Text.classOf, Text.lineFeed, Pair.ByKey, Head.sheetLine, Head.keysLine}
+use Rattle.model.specs.{Head.readFirst, Head.readKeys, Head.readSecrets, Program.readCommands, Messages.readMessages, Turns.readTurns, Job.Job, Sheet.Reading}
+use Rattle.model.specs.{Sheet.accepted, Sheet.refused, Sheet.next, Sheet.targets, Sheet.readBody, Sheet.readLines, Sheet.forbiddenLine, Sheet.closed, Sheet.readSheet}
 use Rattle.model.specs.Phase as Model
-use Rattle.model.specs.Pair.{ByKey}
-use Rattle.model.specs.Head.{sheetLine, keysLine, readFirst, readKeys, readSecrets}
-use Rattle.model.specs.Program.{readCommands}
-use Rattle.model.specs.Messages.{readMessages}
-use Rattle.model.specs.Turns.{readTurns}
-use Rattle.model.specs.Job.{Job}
-use Rattle.model.specs.Sheet.{Reading, accepted, refused, next, targets, readBody, readLines, forbiddenLine, closed, readSheet}
-use Rattle.model.specs.declared.Entry.{Entry}
-use Rattle.model.specs.declared.Key.{Key}
-use Rattle.model.specs.declared.Command.{Command}
-use Rattle.model.specs.declared.Level.{Level}
+use Rattle.model.specs.declared.{Entry.Entry, Key.Key, Command.Command, Level.Level}
 use Rattle.read_text.specs.Text.{free, Word}
-use Rattle.read_line.specs.Line.{Reads, Ahead, phaseAs}
-use Rattle.read_line.specs.declared.Phase.{Phase}
-use Rattle.read_line.specs.declared.Phase.the-variants.{Got, Refused}
+use Rattle.read_line.specs.Phase.{Reads, Ahead, phaseAs}
+use Rattle.read_line.specs.declared.{Phase.Phase, Phase.the-variants.Got, Phase.the-variants.Refused}
 use Rattle.read_head.specs.Head.{NumberRead}
 use Rattle.read_head.specs.declared.NumberLine.{NumberLine}
 use Rattle.read_program.specs.Program.{FirstFar}
 use Rattle.read_sheet.specs.Sheet.{Answers}
-use Rattle.read_sheet.specs.declared.Read.{Read}
-use Rattle.read_sheet.specs.declared.Status.{Status}
-use Rattle.read_sheet.specs.declared.Status.the-variants.{Got as StatusGot, Refused as StatusRefused}
+use Rattle.read_sheet.specs.declared.{Read.Read, Status.Status, Status.the-variants.Got as StatusGot, Status.the-variants.Refused as StatusRefused}
 
 sheet-word : Word (bytes "sheet") (115 ∷ 104 ∷ 101 ∷ 101 ∷ 116 ∷ 61 ∷ [])
 unfolding bytes free

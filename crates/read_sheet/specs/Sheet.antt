@@ -1,12 +1,8 @@
 -- What the readers of a whole sheet answer.
 use mathlib.Core.Path.{_≡_}
 use Prim.Native.Nat.{ℕ}
-use Rattle.model.specs.Job.{Job}
-use Rattle.model.specs.Stored.{Stored, jobOf, nothingStored}
-use Rattle.model.specs.Sheet.{Reading, accepted, refused}
-use Rattle.read_sheet.specs.declared.Status.{Status}
-use Rattle.read_sheet.specs.declared.Status.the-variants.{Got, Refused}
-use Rattle.read_sheet.specs.declared.Read.{Read}
+use Rattle.model.specs.{Job.Job, Stored.Stored, Stored.jobOf, Stored.nothingStored, Sheet.Reading, Sheet.accepted, Sheet.refused}
+use Rattle.read_sheet.specs.declared.{Status.Status, Status.the-variants.Got, Status.the-variants.Refused, Read.Read}
 
 abbrev pub statusAs : Status → Job → Reading
 statusAs Got j = accepted j

@@ -16,10 +16,8 @@ use read_text::is_closed;
 use read_turns::read_turns;
 ghost use Prim.Native.Nat.{_+_, _≤_};
 ghost use lib.ListN.{length, take};
-ghost use Rattle.model.specs.Limits.{mostBytes};
-ghost use Rattle.model.specs.Text.{lines};
-ghost use Rattle.model.specs.Stored.{keyCapacity, keysIn, Stored, jobOf};
-ghost use Rattle.model.specs.Sheet.{refused, targets, readBody, readLines, readSheet};
+ghost use Rattle.model.specs.{Limits.mostBytes, Text.lines, Stored.keyCapacity, Stored.keysIn, Stored.Stored, Stored.jobOf, Sheet.refused, Sheet.targets, Sheet.readBody};
+ghost use Rattle.model.specs.{Sheet.readLines, Sheet.readSheet};
 ghost use Rattle.read_sheet.specs.Sheet.{Answers};
 
 pub enum Status {

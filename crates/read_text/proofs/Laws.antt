@@ -3,18 +3,13 @@ use mathlib.Core.Path.{_≡_, refl, sym, ap, _∙_}
 use mathlib.Core.List.{List, [], _∷_}
 use mathlib.Core.Bool.{Bool, true, false, cond, _&&_, true≢false}
 use Prim.Native.Nat.{ℕ, suc, _+_, _-_, _*_, _<_, _≤_, pred}
-use native.Mathlib.Numerals.{add-one}
-use native.Mathlib.Omega.{arith}
-use lib.Dec.{eqb, leb}
-use lib.ListN.{length, getD, take, drop, drop-of-length-le, length-drop}
-use lib.Seq.{drop-cons, take-all}
-use lib.IntN.{pos, negsuc}
+use native.Mathlib.{Numerals.add-one, Omega.arith}
+use lib.{Dec.eqb, Dec.leb, ListN.length, ListN.getD, ListN.take, ListN.drop, ListN.drop-of-length-le, ListN.length-drop, Seq.drop-cons, Seq.take-all, IntN.pos}
+use lib.{IntN.negsuc}
 use borrow.Author.Tests.{eq-eqb, ne-eqb, leb-true, le-leb, lt-leb}
-use Rattle.model.specs.Limits.{greatestNumber, leastNumber}
-use Rattle.model.specs.Parsed.{got, refused, _>>=_}
-use Rattle.model.specs.Number.{digits, digitsTo, within, upTo, fromOne, natural, negative, positive, number}
-use Rattle.model.specs.Text.{find, count, classOf, between}
-use Rattle.model.specs.Sheet.{forbiddenLine, closed}
+use Rattle.model.specs.{Limits.greatestNumber, Limits.leastNumber, Parsed.got, Parsed.refused, Parsed._>>=_, Number.digits, Number.digitsTo, Number.within, Number.upTo}
+use Rattle.model.specs.{Number.fromOne, Number.natural, Number.negative, Number.positive, Number.number, Text.find, Text.count, Text.classOf, Text.between}
+use Rattle.model.specs.{Sheet.forbiddenLine, Sheet.closed}
 use Rattle.read_text.specs.Text.{forbiddenPlace, starts}
 
 -- one byte of what is left

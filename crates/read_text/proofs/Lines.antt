@@ -3,16 +3,12 @@ use mathlib.Core.Path.{_≡_, refl, sym, ap, _∙_}
 use mathlib.Core.Bool.{Bool, true, false, cond, true≢false}
 use mathlib.Core.List.{List, [], _∷_, _++_, append-assoc}
 use Prim.Native.Nat.{ℕ, zero, suc, _+_, _-_, _<_, _≤_}
-use native.Mathlib.Omega.{arith}
-use native.Mathlib.Decide.{decLt}
-use lib.Dec.{eqb, ltb}
-use lib.ListN.{length, take, drop, length-append}
-use lib.Seq.{take-all, take-append-add, drop-append-add, take-append-seam}
+use native.Mathlib.{Omega.arith, Decide.decLt}
+use lib.{Dec.eqb, Dec.ltb, ListN.length, ListN.take, ListN.drop, ListN.length-append, Seq.take-all, Seq.take-append-add, Seq.drop-append-add, Seq.take-append-seam}
 use borrow.Author.Tests.{eq-eqb, eqb-true, lt-ltb, le-ltb}
-use Rattle.model.specs.Parsed.{Parsed, got, refused}
-use Rattle.model.specs.Text.{find, divide, split, grow, lines, init, same}
+use Rattle.model.specs.{Parsed.Parsed, Parsed.got, Parsed.refused, Text.find, Text.divide, Text.split, Text.grow, Text.lines, Text.init, Text.same, Phase.after}
+use Rattle.model.specs.{Phase.oneMore}
 use Rattle.read_text.specs.Text.{starts, free}
-use Rattle.model.specs.Phase.{after, oneMore}
 
 -- the lines of a text
 pub split-last : (c : ℕ) (t : List ℕ) → length t ≤ find c t → split c t ≡ t ∷ []

@@ -4,9 +4,7 @@ use Prim.Native.Nat.{ℕ, zero, suc, pred, _<_, _≤_, _^_}
 use native.Mathlib.Omega.{arith}
 use lib.IntN.{pos, negsuc, _-ℤ_, +ℤ-idl}
 use Rattle.model.specs.Limits.{leastNumber}
-use mir.Syntax.{w32, w64}
-use mir.Val.{SFits, toZ, ofZ}
-use mir.ValLaws.{toZ-pos, toZ-ofZ}
+use mir.{Syntax.w32, Syntax.w64, Val.SFits, Val.toZ, Val.ofZ, ValLaws.toZ-pos, ValLaws.toZ-ofZ}
 
 pub negated : (n : ℕ) → 1 ≤ n → n ≤ leastNumber → (pos 0 -ℤ toZ w64 n) ≡ negsuc (pred n)
 negated zero h b = absurd (omega arith)

@@ -4,8 +4,7 @@ use mathlib.Core.Bool.{Bool, true, false}
 use mathlib.Core.List.{List, [], _∷_}
 use Prim.Native.Nat.{ℕ, zero, suc, _+_, _<_}
 use native.Mathlib.Nat.{add-zero, zero-add, add-suc, suc-add, le-of-suc-le-suc, not-suc-le-zero}
-use lib.Dec.{T, eqb, eqb→eq}
-use lib.ListN.{length, getD}
+use lib.{Dec.T, Dec.eqb, Dec.eqb→eq, ListN.length, ListN.getD}
 use Rattle.model.specs.Text.{classOf}
 
 abbrev both : Bool → Bool → Bool

@@ -3,14 +3,10 @@ use mathlib.Core.Path.{_≡_}
 use mathlib.Core.Bool.{Bool, true, false, cond}
 use mathlib.Core.List.{List, [], _∷_, _++_}
 use Prim.Native.Nat.{ℕ, suc}
-use lib.Dec.{eqb}
-use lib.IntN.{ℤ}
-use Rattle.model.specs.Parsed.{Parsed, got, refused}
-use Rattle.model.specs.Text.{classOf, forbiddenClass, lineFeed, equalsSign}
-use Rattle.read_text.specs.declared.Natural.{Natural}
-use Rattle.read_text.specs.declared.Natural.the-variants.{Got, Refused}
-use Rattle.read_text.specs.declared.Whole.{Whole}
-use Rattle.read_text.specs.declared.Whole.the-variants.{Got as WholeGot, Refused as WholeRefused}
+use lib.{Dec.eqb, IntN.ℤ}
+use Rattle.model.specs.{Parsed.Parsed, Parsed.got, Parsed.refused, Text.classOf, Text.forbiddenClass, Text.lineFeed, Text.equalsSign}
+use Rattle.read_text.specs.declared.{Natural.Natural, Natural.the-variants.Got, Natural.the-variants.Refused, Whole.Whole, Whole.the-variants.Got as WholeGot}
+use Rattle.read_text.specs.declared.{Whole.the-variants.Refused as WholeRefused}
 
 abbrev pub naturalAs : Natural → Parsed ℕ
 naturalAs (Got n) = got n

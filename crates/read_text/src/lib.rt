@@ -10,12 +10,9 @@ use model::GREATEST_NUMBER;
 use model::LEAST_NUMBER;
 ghost use mathlib.Core.Path.{_≡_};
 ghost use Prim.Native.Nat.{_<_};
-ghost use Rattle.model.specs.Text.{classOf, find, count};
-ghost use Rattle.model.specs.Number.{digitsTo, upTo, fromOne, negative, positive, number};
-ghost use Rattle.model.specs.Sheet.{forbiddenLine, closed};
-ghost use Rattle.read_text.specs.Text.{naturalAs, wholeAs};
-ghost use Rattle.read_text.specs.Text.{forbiddenPlace};
-ghost use Rattle.read_text.specs.Text.{starts};
+ghost use Rattle.model.specs.{Text.classOf, Text.find, Text.count, Number.digitsTo, Number.upTo, Number.fromOne, Number.negative, Number.positive, Number.number};
+ghost use Rattle.model.specs.{Sheet.forbiddenLine, Sheet.closed};
+ghost use Rattle.read_text.specs.Text.{naturalAs, wholeAs, forbiddenPlace, starts};
 
 // A number from 0 to a limit, or the number of its refusal.
 pub enum Natural {

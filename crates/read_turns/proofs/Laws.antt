@@ -4,20 +4,14 @@ use mathlib.Core.Bool.{Bool, true, false, cond}
 use mathlib.Core.List.{List, [], _∷_, _++_, map, append-nil, append-assoc}
 use Prim.Native.Nat.{ℕ, _+_, _<_, _≤_}
 use native.Mathlib.Omega.{arith}
-use lib.Dec.{eqb}
-use lib.ListN.{length, take, drop, set, getD}
+use lib.{Dec.eqb, ListN.length, ListN.take, ListN.drop, ListN.set, ListN.getD}
 use borrow.Author.Tests.{eq-eqb, ne-eqb, lt-leb, le-leb}
-use Rattle.model.specs.Limits.{mostLetters}
-use Rattle.model.specs.Parsed.{Parsed, got, refused, _>>=_}
-use Rattle.model.specs.Text.{bytes, find, lineFeed}
-use Rattle.model.specs.Phase.{Phase, one}
-use Rattle.model.specs.Turns.{letterL, letterH, letter, letters, turnsLine, nothingAfter, readTurns}
-use Rattle.model.specs.Stored.{levelOf}
+use Rattle.model.specs.{Limits.mostLetters, Parsed.Parsed, Parsed.got, Parsed.refused, Parsed._>>=_, Text.bytes, Text.find, Text.lineFeed, Phase.Phase, Phase.one}
+use Rattle.model.specs.{Turns.letterL, Turns.letterH, Turns.letter, Turns.letters, Turns.turnsLine, Turns.nothingAfter, Turns.readTurns, Stored.levelOf}
 use Rattle.model.specs.declared.Level.{Level}
 use Rattle.read_text.specs.Text.{free, Word}
-use Rattle.read_text.proofs.Laws.{uncons, done}
-use Rattle.read_text.proofs.Lines.{lines-none, lines-more}
-use Rattle.read_line.specs.Line.{Reads}
+use Rattle.read_text.proofs.{Laws.uncons, Laws.done, Lines.lines-none, Lines.lines-more}
+use Rattle.read_line.specs.Phase.{Reads}
 use Rattle.read_line.specs.declared.Phase.the-variants.{Got, Refused}
 use Rattle.read_line.proofs.Laws.{map-more}
 use Rattle.read_turns.specs.Turns.{LetterKnown}

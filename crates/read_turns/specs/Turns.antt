@@ -4,12 +4,9 @@ use mathlib.Core.Bool.{Bool, cond}
 use mathlib.Core.List.{List, map}
 use Prim.Native.Nat.{ℕ, _≤_}
 use lib.ListN.{length, take}
-use Rattle.model.specs.Parsed.{got, refused}
-use Rattle.model.specs.Turns.{letter, turnsLine, readTurns}
-use Rattle.model.specs.Stored.{levelOf}
-use Rattle.read_line.specs.Line.{Reads, checkedAs}
-use Rattle.read_turns.specs.declared.Letters.{Letters}
-use Rattle.read_turns.specs.declared.Turns.{Turns}
+use Rattle.model.specs.{Parsed.got, Parsed.refused, Turns.letter, Turns.turnsLine, Turns.readTurns, Stored.levelOf}
+use Rattle.read_line.specs.Phase.{Reads, checkedAs}
+use Rattle.read_turns.specs.declared.{Letters.Letters, Turns.Turns}
 
 pub record LetterKnown (b : ℕ) (r : Bool) : Type 0 where
   pub read : letter b ≡ cond r (got (levelOf b)) (refused 9)

@@ -3,17 +3,11 @@
 use mathlib.Core.Path.{_≡_, refl, ap, _∙_}
 use mathlib.Core.Bool.{Bool, true, false, not, cond, true≢false}
 use Prim.Native.Nat.{ℕ, zero, suc, _+_, _*_, _/_, _^_, _≤_, _<_}
-use native.Mathlib.Nat.{mul-le-mul, div-le-self, le-refl, le-suc, le-trans, lt-of-le-of-lt}
-use native.Mathlib.Omega.{arith}
-use lib.IntN.{ℤ, pos, negsuc, negℤ, subℕ, _+ℤ_, _-ℤ_, _*ℤ_}
-use lib.Dec.{T, ltb, lit<}
+use native.Mathlib.{Nat.mul-le-mul, Nat.div-le-self, Nat.le-refl, Nat.le-suc, Nat.le-trans, Nat.lt-of-le-of-lt, Omega.arith}
+use lib.{IntN.ℤ, IntN.pos, IntN.negsuc, IntN.negℤ, IntN.subℕ, IntN._+ℤ_, IntN._-ℤ_, IntN._*ℤ_, Dec.T, Dec.ltb, Dec.lit<, Signed.mag, Signed.ltZ, Signed.quotZ}
 use borrow.Author.Tests.{ltb-false}
-use lib.Signed.{mag, ltZ, quotZ}
-use mir.Syntax.{w32, w64}
-use mir.Val.{SFits, toZ, ofZ}
-use mir.Facts.{sfits-widen, toZ-ofZ}
-use Rattle.model.specs.Limits.{greatestNumber}
-use Rattle.model.specs.Arith.{clamp, quotient, isZero, least, greatest}
+use mir.{Syntax.w32, Syntax.w64, Val.SFits, Val.toZ, Val.ofZ, Facts.sfits-widen, Facts.toZ-ofZ}
+use Rattle.model.specs.{Limits.greatestNumber, Arith.clamp, Arith.quotient, Arith.isZero, Arith.least, Arith.greatest}
 
 -- a cast to a wider signed type
 module _ {z : ℤ} (fits : SFits w32 z) where

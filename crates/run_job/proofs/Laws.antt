@@ -3,39 +3,23 @@ use Prim.Native.Nat.{ℕ, suc, _+_, _-_, _<_, _≤_}
 use mathlib.Core.Path.{_≡_, refl, sym, ap, ap₂, subst, _∙_}
 use mathlib.Core.Bool.{Bool, true, false, cond, true≢false}
 use mathlib.Core.List.{List, [], _∷_, _++_, map}
-use native.Mathlib.Numerals.{add-one}
-use native.Mathlib.Nat.{add-zero}
-use native.Mathlib.Omega.{arith}
-use native.Mathlib.Decide.{decLt}
-use lib.Dec.{ltb, leb, eqb}
-use lib.ListN.{length, getD, drop, set, replicate, length-map, drop-of-length-le, List·getD-map, List·getD-eq-default}
-use lib.Seq.{drop-cons, set-getD}
+use native.Mathlib.{Numerals.add-one, Nat.add-zero, Omega.arith, Decide.decLt}
+use lib.{Dec.ltb, Dec.leb, Dec.eqb, ListN.length, ListN.getD, ListN.drop, ListN.set, ListN.replicate, ListN.length-map, ListN.drop-of-length-le, ListN.List·getD-map}
+use lib.{ListN.List·getD-eq-default, Seq.drop-cons, Seq.set-getD}
 use borrow.Author.Tests.{lt-ltb, le-ltb, lt-leb, le-leb, eq-eqb, ne-eqb}
-use Rattle.model.specs.Command.{blank}
-use Rattle.model.specs.Job.{Job}
-use Rattle.model.specs.Step.{begun, calledOf, calling, variable, doesBy, does, callOf}
-use Rattle.model.specs.Stored.{levelOf}
-use Rattle.model.specs.State.{Process, Processes, Sent, Common, State, entry, refill, stored, step, command, stopped, put, each, process, fieldsOf, withProcess}
+use Rattle.model.specs.{Command.blank, Job.Job, Step.begun, Step.calledOf, Step.calling, Step.variable, Step.doesBy, Step.does, Step.callOf, Stored.levelOf}
+use Rattle.model.specs.{State.Process, State.Processes, State.Sent, State.Common, State.State, State.entry, State.refill, State.stored, State.step, State.command}
+use Rattle.model.specs.{State.stopped, State.put, State.each, State.process, State.fieldsOf, State.withProcess, Message.received, Message.takes, Message.receive}
+use Rattle.model.specs.{Message.columns, Message.send, Run.share, Run.lead, Run.followed, Run.follow, Run.counted, Run.turn, Run.ended, Run.run, Run.fresh, Run.initial}
+use Rattle.model.specs.{Run.runJob, Turns.letterL, Line.lineLength, Verdict.written, Verdict.short, Verdict.allUsed, Verdict.noRoom, Verdict.verdictBy, Verdict.verdict}
+use Rattle.model.specs.{Verdict.idles}
 use Rattle.model.specs.State as State
-use Rattle.model.specs.Message.{received, takes, receive, columns, send}
-use Rattle.model.specs.Run.{share, lead, followed, follow, counted, turn, ended, run, fresh, initial, runJob}
-use Rattle.model.specs.Turns.{letterL}
-use Rattle.model.specs.Output.{lineLength}
-use Rattle.model.specs.Verdict.{written, short, allUsed, noRoom, verdictBy, verdict, idles}
-use Rattle.model.specs.declared.Entry.{Entry}
-use Rattle.model.specs.declared.Entry.the-variants.{Absent}
-use Rattle.model.specs.declared.Key.{Key}
-use Rattle.model.specs.declared.Op.{Op}
-use Rattle.model.specs.declared.Op.the-variants.{Set, Add, Sub, Mul, Div, Read, Has, Put, Drop, IfNeg, IfZero, Jump, Receive, Send, Stop}
-use Rattle.model.specs.declared.Command.{Command}
-use Rattle.model.specs.declared.Call.{Call}
-use Rattle.model.specs.declared.Call.the-variants.{Neither, Receives, Sends}
-use Rattle.model.specs.declared.Level.{Level}
-use Rattle.model.specs.declared.Level.the-variants.{Low, High}
-use Rattle.model.specs.declared.Execution.{Execution}
-use Rattle.model.specs.declared.Stepped.{Stepped}
-use Rattle.model.specs.declared.Ending.{Ending}
-use Rattle.model.specs.declared.Verdict.the-variants.{GoesOn, Ends}
+use Rattle.model.specs.declared.{Entry.Entry, Entry.the-variants.Absent, Key.Key, Op.Op, Op.the-variants.Set, Op.the-variants.Add, Op.the-variants.Sub}
+use Rattle.model.specs.declared.{Op.the-variants.Mul, Op.the-variants.Div, Op.the-variants.Read, Op.the-variants.Has, Op.the-variants.Put, Op.the-variants.Drop}
+use Rattle.model.specs.declared.{Op.the-variants.IfNeg, Op.the-variants.IfZero, Op.the-variants.Jump, Op.the-variants.Receive, Op.the-variants.Send, Op.the-variants.Stop}
+use Rattle.model.specs.declared.{Command.Command, Call.Call, Call.the-variants.Neither, Call.the-variants.Receives, Call.the-variants.Sends, Level.Level}
+use Rattle.model.specs.declared.{Level.the-variants.Low, Level.the-variants.High, Execution.Execution, Stepped.Stepped, Ending.Ending, Verdict.the-variants.GoesOn}
+use Rattle.model.specs.declared.{Verdict.the-variants.Ends}
 use Rattle.run_step.proofs.Laws.{effect-calls, effect-does}
 use Rattle.run_verdict.specs.Verdict.{lacksRoom}
 

@@ -2,32 +2,17 @@
 use Prim.Native.Nat.{ℕ, suc, _+_, _-_, _*_, _≤_}
 use mathlib.Core.Path.{_≡_, refl, sym, ap, ap₂, _∙_}
 use mathlib.Core.List.{List, [], _∷_, _++_, append-assoc, append-nil}
-use native.Mathlib.Numerals.{add-one}
-use native.Mathlib.Nat.{mul-suc, zero-add}
-use native.Mathlib.Omega.{arith}
+use native.Mathlib.{Numerals.add-one, Nat.mul-suc, Nat.zero-add, Omega.arith}
 use lib.ListN.{length, getD, drop, length-append}
-use Rattle.model.specs.Job.{Job}
-use Rattle.model.specs.State.{Sent, State, fieldsOf}
+use Rattle.model.specs.{Job.Job, State.Sent, State.State, State.fieldsOf, Run.Outcome, Run.ended, Message.source, Message.columns, Verdict.written, Line.lineLength}
+use Rattle.model.specs.{Line.lineBytes, Line.bytesOf, Line.memoryAfter, Answer.left, Answer.leftBy}
 use Rattle.model.specs.State as State
-use Rattle.model.specs.Run.{Outcome, ended}
-use Rattle.model.specs.Message.{source, columns}
-use Rattle.model.specs.Verdict.{written}
-use Rattle.model.specs.Output.{lineLength, lineBytes, bytesOf, memoryAfter}
-use Rattle.model.specs.Answer.{left, leftBy}
-use Rattle.model.proofs.Output.{line-length}
-use Rattle.model.specs.declared.Entry.{Entry}
-use Rattle.model.specs.declared.Entry.the-variants.{Absent}
-use Rattle.model.specs.declared.Key.{Key}
-use Rattle.model.specs.declared.Level.{Level}
-use Rattle.model.specs.declared.Level.the-variants.{Low, High}
-use Rattle.model.specs.declared.Execution.{Execution}
-use Rattle.model.specs.declared.Ending.{Ending}
-use Rattle.model.specs.declared.Answer.the-variants.{Ended}
+use Rattle.model.proofs.Line.{line-length}
+use Rattle.model.specs.declared.{Entry.Entry, Entry.the-variants.Absent, Key.Key, Level.Level, Level.the-variants.Low, Level.the-variants.High, Execution.Execution}
+use Rattle.model.specs.declared.{Ending.Ending, Answer.the-variants.Ended}
 use Rattle.run_verdict.specs.Verdict.{countsOf}
-use Rattle.write_line.specs.Placed.{placed}
-use Rattle.write_line.specs.Line.{lineOf}
-use Rattle.write_line.proofs.Places.{placed-nil, placed-append}
-use Rattle.write_line.proofs.Laws.{columns-length}
+use Rattle.write_line.specs.{Placed.placed, Line.lineOf}
+use Rattle.write_line.proofs.{Places.placed-nil, Places.placed-append, Laws.columns-length}
 use Rattle.run_job.proofs.Laws.{stateOf, Runs}
 
 -- what the run has come to so far

@@ -3,51 +3,27 @@ use Prim.Native.Nat.{ℕ, zero, suc, _+_, _-_, _*_, _<_, _≤_}
 use mathlib.Core.Path.{_≡_, refl, sym, ap, ap₂, _∙_}
 use mathlib.Core.Bool.{Bool, true, false, cond}
 use mathlib.Core.List.{List, [], _∷_}
-use native.Mathlib.Omega.{arith}
-use native.Mathlib.Nat.{mul-le-mul, le-trans}
-use lib.Dec.{ltb, leb}
-use lib.ListN.{length, getD, drop, set, replicate, List·getD-map}
+use native.Mathlib.{Omega.arith, Nat.mul-le-mul, Nat.le-trans, Decide.decLt}
+use lib.{Dec.ltb, Dec.leb, ListN.length, ListN.getD, ListN.drop, ListN.set, ListN.replicate, ListN.List·getD-map}
 use borrow.Author.Tests.{lt-ltb, le-ltb, le-leb, leb-false, ltb-false, eq-eqb}
-use native.Mathlib.Decide.{decLt}
-use Rattle.model.specs.Job.{Job}
-use Rattle.model.specs.Limits.{mostLetters}
-use Rattle.model.specs.Step.{begun, calledOf, does, callOf}
-use Rattle.model.specs.Stored.{keyCapacity, entriesIn, levelOf, side, held, absentField}
-use Rattle.model.specs.Accepted.{Within}
-use Rattle.model.specs.State.{State}
+use Rattle.model.specs.{Job.Job, Limits.mostLetters, Step.begun, Step.calledOf, Step.does, Step.callOf, Stored.keyCapacity, Stored.entriesIn, Stored.levelOf, Stored.side}
+use Rattle.model.specs.{Stored.held, Stored.absentField, Accepted.Within, State.State, Message.fill, Message.received, Turns.letterL, Line.lineLength, Line.lineBytes}
+use Rattle.model.specs.{Verdict.short, Verdict.verdictBy, Verdict.verdict, Verdict.idles, Run.runJob, Answer.left, Answer.leftBy}
 use Rattle.model.specs.State as State
-use Rattle.model.specs.Message.{fill, received}
-use Rattle.model.specs.Turns.{letterL}
-use Rattle.model.specs.Output.{lineLength, lineBytes}
-use Rattle.model.specs.Verdict.{short, verdictBy, verdict, idles}
-use Rattle.model.specs.Run.{runJob}
-use Rattle.model.specs.Answer.{left, leftBy}
-use Rattle.model.specs.declared.Entry.the-variants.{Absent}
-use Rattle.model.specs.declared.Field.{Field}
-use Rattle.model.specs.declared.Command.{Command}
-use Rattle.model.specs.declared.Call.{Call}
-use Rattle.model.specs.declared.Call.the-variants.{Neither, Receives, Sends}
-use Rattle.model.specs.declared.Level.{Level}
-use Rattle.model.specs.declared.Level.the-variants.{Low, High}
-use Rattle.model.specs.declared.Execution.{Execution}
-use Rattle.model.specs.declared.Stepped.{Stepped}
-use Rattle.model.specs.declared.Ending.{Ending}
-use Rattle.model.specs.declared.Verdict.{Verdict}
-use Rattle.model.specs.declared.Verdict.the-variants.{GoesOn, Ends}
-use Rattle.model.specs.declared.Answer.{Answer}
-use Rattle.model.specs.declared.Answer.the-variants.{Ended}
-use Rattle.model.specs.declared.KeySlot.{KeySlot}
-use Rattle.model.specs.declared.MessageLine.{MessageLine}
-use Rattle.write_line.specs.Placed.{placed}
-use Rattle.write_line.specs.Line.{columnsIn, lineOf}
+use Rattle.model.specs.declared.{Entry.the-variants.Absent, Field.Field, Command.Command, Call.Call, Call.the-variants.Neither, Call.the-variants.Receives}
+use Rattle.model.specs.declared.{Call.the-variants.Sends, Level.Level, Level.the-variants.Low, Level.the-variants.High, Execution.Execution, Stepped.Stepped}
+use Rattle.model.specs.declared.{Ending.Ending, Verdict.Verdict, Verdict.the-variants.GoesOn, Verdict.the-variants.Ends, Answer.Answer, Answer.the-variants.Ended}
+use Rattle.model.specs.declared.{KeySlot.KeySlot, MessageLine.MessageLine}
+use Rattle.write_line.specs.{Placed.placed, Line.columnsIn, Line.lineOf}
 use Rattle.write_line.proofs.Laws.{held-at}
 use Rattle.run_message.specs.Message.{Cleared, Received, withLow, withHigh}
 use Rattle.run_message.proofs.Laws.{held-set, held-same, cleared-held}
 use Rattle.run_step.specs.Step.{MayStep}
 use Rattle.run_verdict.specs.Verdict.{lacksRoom, CountsFit, countsOf}
-use Rattle.run_job.proofs.Laws.{stateOf, commandAt, begins, ends, after-command, after-receive, after-send, after-idle, after-high, level-low, level-high, verdict-is}
-use Rattle.run_job.proofs.Memory.{SoFar, line-is, started, written-is, still, sending, finish}
-use Rattle.run_job.proofs.Views.{InArrays, job, keys-count, program-count, lines-count, letters-count, letters-few, command-is, operands-at, received-is}
+use Rattle.run_job.proofs.{Laws.stateOf, Laws.commandAt, Laws.begins, Laws.ends, Laws.after-command, Laws.after-receive, Laws.after-send, Laws.after-idle}
+use Rattle.run_job.proofs.{Laws.after-high, Laws.level-low, Laws.level-high, Laws.verdict-is, Memory.SoFar, Memory.line-is, Memory.started, Memory.written-is}
+use Rattle.run_job.proofs.{Memory.still, Memory.sending, Memory.finish, Views.InArrays, Views.job, Views.keys-count, Views.program-count, Views.lines-count}
+use Rattle.run_job.proofs.{Views.letters-count, Views.letters-few, Views.command-is, Views.operands-at, Views.received-is}
 
 -- below the length the default does not matter
 any-default : {A : Type 0} (xs : List A) (n : ℕ) (d e : A) → n < length xs → getD xs n d ≡ getD xs n e

@@ -3,28 +3,15 @@ use Prim.Native.Nat.{ℕ, _<_, _≤_}
 use mathlib.Core.Path.{_≡_, ap, subst, subst₂, _∙_}
 use mathlib.Core.Bool.{cond}
 use mathlib.Core.List.{List}
-use native.Mathlib.Omega.{arith}
-use native.Mathlib.Decide.{decLt}
-use lib.Dec.{ltb}
-use lib.ListN.{length, getD, take, drop, replicate, length-map, drop-of-length-le, List·getD-map}
-use lib.Seq.{drop-cons, getD-take, length-take-le}
+use native.Mathlib.{Omega.arith, Decide.decLt}
+use lib.{Dec.ltb, ListN.length, ListN.getD, ListN.take, ListN.drop, ListN.replicate, ListN.length-map, ListN.drop-of-length-le, ListN.List·getD-map, Seq.drop-cons}
+use lib.{Seq.getD-take, Seq.length-take-le}
 use borrow.Author.Tests.{lt-ltb, le-ltb}
-use Rattle.model.specs.Command.{blank}
-use Rattle.model.specs.Job.{Job}
-use Rattle.model.specs.Limits.{mostLetters}
-use Rattle.model.specs.Stored.{keyCapacity, commandCapacity, messageCapacity, keyIn, entriesIn, levelOf, jobFrom}
-use Rattle.model.specs.Accepted.{Within}
-use Rattle.model.specs.Message.{fill, received}
-use Rattle.model.proofs.Accepted.{every-at}
-use Rattle.model.proofs.Stored.{first-count}
-use Rattle.model.specs.declared.Entry.{Entry}
-use Rattle.model.specs.declared.Entry.the-variants.{Absent}
-use Rattle.model.specs.declared.Op.the-variants.{Set}
-use Rattle.model.specs.declared.Command.{Command}
-use Rattle.model.specs.declared.Level.{Level}
-use Rattle.model.specs.declared.KeySlot.{KeySlot}
-use Rattle.model.specs.declared.MessageLine.{MessageLine}
-use Rattle.run_job.specs.Job.{Ready}
+use Rattle.model.specs.{Command.blank, Job.Job, Limits.mostLetters, Stored.keyCapacity, Stored.commandCapacity, Stored.messageCapacity, Stored.keyIn, Stored.entriesIn}
+use Rattle.model.specs.{Stored.levelOf, Stored.jobFrom, Accepted.Within, Message.fill, Message.received}
+use Rattle.model.proofs.{Accepted.every-at, Stored.first-count}
+use Rattle.model.specs.declared.{Entry.Entry, Entry.the-variants.Absent, Op.the-variants.Set, Command.Command, Level.Level, KeySlot.KeySlot, MessageLine.MessageLine}
+use Rattle.run_job.specs.Run.{Ready}
 use Rattle.run_job.proofs.Laws.{commandAt}
 
 -- a job in its arrays, as the caller of the run has it

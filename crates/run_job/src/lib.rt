@@ -27,11 +27,8 @@ use run_verdict::verdict;
 use write_line::write_line;
 ghost use mathlib.Core.Path.{_≡_};
 ghost use lib.ListN.{length};
-ghost use Rattle.model.specs.Run.{runJob};
-ghost use Rattle.model.specs.Answer.{left, leftBy};
-ghost use Rattle.model.specs.Stored.{jobFrom, jobOf, Stored};
-ghost use Rattle.model.specs.Accepted.{Sound};
-ghost use Rattle.run_job.specs.Job.{Ready};
+ghost use Rattle.model.specs.{Run.runJob, Answer.left, Answer.leftBy, Stored.jobFrom, Stored.jobOf, Stored.Stored, Accepted.Sound};
+ghost use Rattle.run_job.specs.Run.{Ready};
 
 // Per turn only an execution's record, one command and one entry move; a receive and a send move the message too.
 // Every turn ends in its own step of the position, so that each is one case of the proof.

@@ -2,24 +2,14 @@
 use mathlib.Core.Path.{_≡_, refl, sym, ap, ap₂, _∙_}
 use mathlib.Core.List.{List, [], _∷_, _++_, map}
 use Prim.Native.Nat.{ℕ, zero, suc, _+_, _≤_, _<_}
-use native.Mathlib.Omega.{arith}
-use native.Mathlib.Nat.{le-of-suc-le-suc, not-suc-le-zero}
-use native.Mathlib.Numerals.{add-one}
-use lib.ListN.{length, getD, take, drop, set, replicate, length-map}
-use lib.Seq.{take-suc, take-suc-set, take-all, map-set-same}
-use Rattle.model.specs.Stored.{keyCapacity, firstOf, keyIn, entryIn, keysIn, side, held, openSlot, absentSlot, absentField}
-use Rattle.model.specs.Message.{shown, fill}
+use native.Mathlib.{Omega.arith, Nat.le-of-suc-le-suc, Nat.not-suc-le-zero, Numerals.add-one}
+use lib.{ListN.length, ListN.getD, ListN.take, ListN.drop, ListN.set, ListN.replicate, ListN.length-map, Seq.take-suc, Seq.take-suc-set, Seq.take-all, Seq.map-set-same}
+use Rattle.model.specs.{Stored.keyCapacity, Stored.firstOf, Stored.keyIn, Stored.entryIn, Stored.keysIn, Stored.side, Stored.held, Stored.openSlot, Stored.absentSlot}
+use Rattle.model.specs.{Stored.absentField, Message.shown, Message.fill}
 use Rattle.run_message.specs.Message.{fieldOf, Cleared}
 use Rattle.model.proofs.Stored.{map-set, first-set, first-same, first-at, first-count}
-use Rattle.model.specs.declared.Entry.{Entry}
-use Rattle.model.specs.declared.Entry.the-variants.{Absent, Number}
-use Rattle.model.specs.declared.Field.{Field}
-use Rattle.model.specs.declared.Key.{Key}
-use Rattle.model.specs.declared.Key.the-variants.{Open, Secret}
-use Rattle.model.specs.declared.Level.{Level}
-use Rattle.model.specs.declared.Level.the-variants.{Low, High}
-use Rattle.model.specs.declared.KeySlot.{KeySlot}
-use Rattle.model.specs.declared.EntrySlot.{EntrySlot}
+use Rattle.model.specs.declared.{Entry.Entry, Entry.the-variants.Absent, Entry.the-variants.Number, Field.Field, Key.Key, Key.the-variants.Open, Key.the-variants.Secret}
+use Rattle.model.specs.declared.{Level.Level, Level.the-variants.Low, Level.the-variants.High, KeySlot.KeySlot, EntrySlot.EntrySlot}
 
 fill-length : (l : Level) (ks : List Key) (es : List Entry) → length (fill l ks es) ≡ length ks
 unfolding fill

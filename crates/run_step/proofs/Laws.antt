@@ -3,17 +3,12 @@ use Prim.Native.Nat.{ℕ, zero, suc, _+_, _≤_, zero-le}
 use mathlib.Core.Path.{_≡_, refl}
 use mathlib.Core.Bool.{cond}
 use native.Mathlib.Nat.{add-zero, le-refl}
-use lib.IntN.{ℤ, pos, negsuc}
-use lib.ListN.{set}
-use lib.Seq.{set-getD}
-use Rattle.model.specs.Arith.{isZero}
-use Rattle.model.specs.Step.{variable, afterOf, goes, assigns, calling, doesBy, does}
-use Rattle.model.specs.declared.Entry.{Entry}
-use Rattle.model.specs.declared.Op.{Op}
-use Rattle.model.specs.declared.Op.the-variants.{Set, Add, Sub, Mul, Div, Read, Has, Put, Drop, IfNeg, IfZero, Jump, Receive, Send, Stop}
-use Rattle.model.specs.declared.Command.{Command}
-use Rattle.model.specs.declared.Execution.{Execution}
-use Rattle.model.specs.declared.Stepped.{Stepped}
+use lib.{IntN.ℤ, IntN.pos, IntN.negsuc, ListN.set, Seq.set-getD}
+use Rattle.model.specs.{Arith.isZero, Step.variable, Step.afterOf, Step.goes, Step.assigns, Step.calling, Step.doesBy, Step.does}
+use Rattle.model.specs.declared.{Entry.Entry, Op.Op, Op.the-variants.Set, Op.the-variants.Add, Op.the-variants.Sub, Op.the-variants.Mul, Op.the-variants.Div}
+use Rattle.model.specs.declared.{Op.the-variants.Read, Op.the-variants.Has, Op.the-variants.Put, Op.the-variants.Drop, Op.the-variants.IfNeg, Op.the-variants.IfZero}
+use Rattle.model.specs.declared.{Op.the-variants.Jump, Op.the-variants.Receive, Op.the-variants.Send, Op.the-variants.Stop, Command.Command, Execution.Execution}
+use Rattle.model.specs.declared.{Stepped.Stepped}
 use Rattle.run_step.specs.Step.{made, effectBy, effectOf}
 use Rattle.run_step.specs.declared.Effect.{Effect}
 

@@ -1,17 +1,12 @@
 -- A command as the change that it makes: the same as `does` of the model, in a form that moves only numbers and one entry.
 use mathlib.Core.Bool.{cond}
 use Prim.Native.Nat.{ℕ, _+_, _<_}
-use lib.IntN.{ℤ, pos}
-use lib.Signed.{ltZ}
-use Rattle.model.specs.Limits.{variables}
-use Rattle.model.specs.Arith.{sum, difference, product, quotient, isZero}
-use Rattle.model.specs.Step.{numberOf, presence}
-use Rattle.model.specs.declared.Entry.{Entry}
-use Rattle.model.specs.declared.Entry.the-variants.{Absent, Number}
-use Rattle.model.specs.declared.Op.{Op}
-use Rattle.model.specs.declared.Op.the-variants.{Set, Add, Sub, Mul, Div, Read, Has, Put, Drop, IfNeg, IfZero, Jump, Receive, Send, Stop}
-use Rattle.model.specs.declared.Command.{Command}
-use Rattle.model.specs.declared.Execution.{Execution}
+use lib.{IntN.ℤ, IntN.pos, Signed.ltZ}
+use Rattle.model.specs.{Limits.variables, Arith.sum, Arith.difference, Arith.product, Arith.quotient, Arith.isZero, Step.numberOf, Step.presence}
+use Rattle.model.specs.declared.{Entry.Entry, Entry.the-variants.Absent, Entry.the-variants.Number, Op.Op, Op.the-variants.Set, Op.the-variants.Add, Op.the-variants.Sub}
+use Rattle.model.specs.declared.{Op.the-variants.Mul, Op.the-variants.Div, Op.the-variants.Read, Op.the-variants.Has, Op.the-variants.Put, Op.the-variants.Drop}
+use Rattle.model.specs.declared.{Op.the-variants.IfNeg, Op.the-variants.IfZero, Op.the-variants.Jump, Op.the-variants.Receive, Op.the-variants.Send, Op.the-variants.Stop}
+use Rattle.model.specs.declared.{Command.Command, Execution.Execution}
 use Rattle.run_step.specs.declared.Effect.{Effect}
 
 abbrev pub made : ℕ → ℤ → ℕ → Entry → Effect

@@ -12,10 +12,8 @@ use run_arith::sub;
 ghost use mathlib.Core.Path.{_≡_};
 ghost use mathlib.Core.Bool.{cond};
 ghost use Prim.Native.Nat.{_+_, _<_};
-ghost use lib.IntN.{pos};
-ghost use lib.Signed.{ltZ};
-ghost use Rattle.model.specs.Arith.{isZero};
-ghost use Rattle.model.specs.Step.{numberOf, presence, does, callOf};
+ghost use lib.{IntN.pos, Signed.ltZ};
+ghost use Rattle.model.specs.{Arith.isZero, Step.numberOf, Step.presence, Step.does, Step.callOf};
 ghost use Rattle.run_step.specs.Step.{MayStep, made as Effect·made, effectOf};
 
 // What a command does: the next place, the value for its variable, the calls that it makes, and the entry for its key.

@@ -2,10 +2,8 @@
 use Prim.Native.Nat.{ℕ, _<_}
 use mathlib.Core.Bool.{Bool, false, cond}
 use lib.Dec.{eqb}
-use Rattle.model.specs.Turns.{letterL}
-use Rattle.model.specs.Verdict.{short}
-use Rattle.model.specs.declared.Call.{Call}
-use Rattle.model.specs.declared.Counts.{Counts}
+use Rattle.model.specs.{Turns.letterL, Verdict.short}
+use Rattle.model.specs.declared.{Call.Call, Counts.Counts}
 
 -- the letter is an L, at a send for whose line fewer bytes are spare than it needs
 abbrev pub lacksRoom : ℕ → Call → ℕ → ℕ → Bool

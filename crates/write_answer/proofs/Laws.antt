@@ -1,11 +1,10 @@
 -- Numbers of 32 bits, stored one after the other.
 use Prim.Native.Nat.{ℕ, _+_, _*_, _≤_, _<_}
-use native.Mathlib.Omega.{arith}
-use native.Mathlib.Numerals.{add-one}
+use native.Mathlib.{Omega.arith, Numerals.add-one}
 use mathlib.Core.Path.{_≡_, refl, sym, ap, ap₂, _∙_}
 use mathlib.Core.List.{List, [], _∷_, _++_, append-assoc, append-nil}
-use lib.ListN.{length, getD, take, drop, length-append, length-drop, drop-of-length-le}
-use lib.Seq.{sets, sets-eq, take-at, drop-append-add, drop-drop, take-suc, take-all, length-take-le}
+use lib.{ListN.length, ListN.getD, ListN.take, ListN.drop, ListN.length-append, ListN.length-drop, ListN.drop-of-length-le, Seq.sets, Seq.sets-eq, Seq.take-at}
+use lib.{Seq.drop-append-add, Seq.drop-drop, Seq.take-suc, Seq.take-all, Seq.length-take-le}
 use Rattle.model.specs.Answer.{le32, allLe32}
 
 pub le32-length : (n : ℕ) → length (le32 n) ≡ 4

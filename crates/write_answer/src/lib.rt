@@ -4,8 +4,7 @@ use model::Ending;
 use model::NUMBERS;
 ghost use mathlib.Core.Path.{_≡_};
 ghost use Prim.Native.Nat.{_+_, _≤_};
-ghost use lib.ListN.{length};
-ghost use lib.Seq.{sets};
+ghost use lib.{ListN.length, Seq.sets};
 ghost use Rattle.model.specs.Answer.{numbersOf, endingNumber, le32, allLe32, answerBytes};
 
 fn ending_number(e: Ending) -> u32

@@ -2,27 +2,14 @@
 use mathlib.Core.Path.{_≡_, refl, sym, ap, ap₂, _∙_}
 use mathlib.Core.List.{List, [], _∷_, _++_, append-assoc}
 use Prim.Native.Nat.{ℕ, zero, suc, _+_, _-_, _*_, _≤_, _<_}
-use native.Mathlib.Omega.{arith}
-use native.Mathlib.Nat.{le-of-suc-le-suc, not-suc-le-zero, add-zero, zero-add}
-use native.Mathlib.Numerals.{add-one}
-use lib.ListN.{length, getD, drop, set, replicate, length-append, length-set, drop-of-length-le}
-use lib.Seq.{drop-cons}
-use Rattle.model.specs.Text.{lineFeed, space, dot}
-use Rattle.model.specs.Stored.{keyIn, keysIn, side, held, openSlot, absentField}
-use Rattle.model.specs.Message.{source, columns}
-use Rattle.model.specs.Output.{cell, cells, heading, lineBytes}
-use Rattle.model.specs.declared.Entry.{Entry}
-use Rattle.model.specs.declared.Entry.the-variants.{Absent}
-use Rattle.model.specs.declared.Field.{Field}
-use Rattle.model.specs.declared.Key.{Key}
-use Rattle.model.specs.declared.Key.the-variants.{Open}
-use Rattle.model.specs.declared.Level.{Level}
-use Rattle.model.specs.declared.Level.the-variants.{Low, High}
-use Rattle.model.specs.declared.KeySlot.{KeySlot}
-use Rattle.model.proofs.Output.{cell-length, cells-length, heading-length}
-use Rattle.model.proofs.Stored.{first-at, first-count}
-use Rattle.write_line.specs.Placed.{placed}
-use Rattle.write_line.specs.Line.{columnsIn, lineOf}
+use native.Mathlib.{Omega.arith, Nat.le-of-suc-le-suc, Nat.not-suc-le-zero, Nat.add-zero, Nat.zero-add, Numerals.add-one}
+use lib.{ListN.length, ListN.getD, ListN.drop, ListN.set, ListN.replicate, ListN.length-append, ListN.length-set, ListN.drop-of-length-le, Seq.drop-cons}
+use Rattle.model.specs.{Text.lineFeed, Text.space, Text.dot, Stored.keyIn, Stored.keysIn, Stored.side, Stored.held, Stored.openSlot, Stored.absentField, Message.source}
+use Rattle.model.specs.{Message.columns, Line.cell, Line.cells, Line.heading, Line.lineBytes}
+use Rattle.model.specs.declared.{Entry.Entry, Entry.the-variants.Absent, Field.Field, Key.Key, Key.the-variants.Open, Level.Level, Level.the-variants.Low}
+use Rattle.model.specs.declared.{Level.the-variants.High, KeySlot.KeySlot}
+use Rattle.model.proofs.{Line.cell-length, Line.cells-length, Line.heading-length, Stored.first-at, Stored.first-count}
+use Rattle.write_line.specs.{Placed.placed, Line.columnsIn, Line.lineOf}
 use Rattle.write_line.proofs.Places.{placed-append, placed-nil, placed-cons, placed-next, placed-length}
 
 -- a dot stored

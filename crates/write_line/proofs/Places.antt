@@ -2,11 +2,9 @@
 use mathlib.Core.Path.{_≡_, sym, ap, _∙_}
 use mathlib.Core.List.{List, [], _∷_, _++_, append-assoc}
 use Prim.Native.Nat.{ℕ, suc, _+_, _≤_, _<_}
-use native.Mathlib.Omega.{arith}
-use native.Mathlib.Numerals.{add-one}
-use native.Mathlib.Nat.{add-zero}
-use lib.ListN.{length, take, drop, set, length-append, length-drop, take-append-drop}
-use lib.Seq.{length-take-le, take-at, drop-append-add, drop-drop, take-suc-set, drop-set-lt, append-snoc}
+use native.Mathlib.{Omega.arith, Numerals.add-one, Nat.add-zero}
+use lib.{ListN.length, ListN.take, ListN.drop, ListN.set, ListN.length-append, ListN.length-drop, ListN.take-append-drop, Seq.length-take-le, Seq.take-at}
+use lib.{Seq.drop-append-add, Seq.drop-drop, Seq.take-suc-set, Seq.drop-set-lt, Seq.append-snoc}
 use Rattle.write_line.specs.Placed.{placed}
 
 module _ (d : List ℕ) (at : ℕ) (s : List ℕ) (fits : at + length s ≤ length d) where

@@ -3,12 +3,9 @@ use mathlib.Core.Path.{_≡_, refl}
 use mathlib.Core.Bool.{true, false, true≢false}
 use Prim.Native.Nat.{suc, _+_, _-_}
 use native.Mathlib.Omega.{arith}
-use lib.Dec.{T}
+use lib.{Dec.T, IntN.ℤ, IntN.pos, IntN.negsuc, IntN.natAbs, IntN._-ℤ_, Signed.mag, Signed.ltZ, Signed.nonNeg}
 use borrow.Author.Tests.{ltb-true, le-ltb}
-use lib.IntN.{ℤ, pos, negsuc, natAbs, _-ℤ_}
-use lib.Signed.{mag, ltZ, nonNeg}
-use Rattle.model.specs.Text.{plus, minus}
-use Rattle.model.specs.Output.{sign}
+use Rattle.model.specs.{Text.plus, Text.minus, Line.sign}
 
 pub sign-neg : (z : ℤ) → ltZ z (pos 0) ≡ true → minus ≡ sign z
 unfolding sign

@@ -2,12 +2,8 @@
 use Prim.Native.Nat.{ℕ, _+_, _≤_}
 use mathlib.Core.List.{List}
 use lib.ListN.{length}
-use Rattle.model.specs.Message.{columns}
-use Rattle.model.specs.State.{Sent}
-use Rattle.model.specs.Stored.{keyCapacity, keysIn, held}
-use Rattle.model.specs.declared.Entry.{Entry}
-use Rattle.model.specs.declared.Field.{Field}
-use Rattle.model.specs.declared.KeySlot.{KeySlot}
+use Rattle.model.specs.{Message.columns, State.Sent, Stored.keyCapacity, Stored.keysIn, Stored.held}
+use Rattle.model.specs.declared.{Entry.Entry, Field.Field, KeySlot.KeySlot}
 
 -- the entry of each of n keys
 abbrev pub columnsIn : ℕ → List KeySlot → List Field → List Entry

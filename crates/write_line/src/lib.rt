@@ -7,14 +7,10 @@ use model::KeySlot;
 ghost use mathlib.Core.Path.{_≡_};
 ghost use mathlib.Core.List.{_∷_};
 ghost use Prim.Native.Nat.{_+_, _*_, _≤_, _<_};
-ghost use lib.ListN.{length, replicate};
-ghost use lib.IntN.{natAbs};
-ghost use Rattle.model.specs.Text.{space, dot};
-ghost use Rattle.model.specs.Message.{source};
-ghost use Rattle.model.specs.Output.{digits, sign as Output·sign, cell as Output·cell, cells as Output·cells, heading as Output·heading, lineBytes};
-ghost use Rattle.model.specs.Stored.{side};
-ghost use Rattle.write_line.specs.Placed.{placed};
-ghost use Rattle.write_line.specs.Line.{columnsIn, lineOf, Roomy};
+ghost use lib.{ListN.length, ListN.replicate, IntN.natAbs};
+ghost use Rattle.model.specs.{Text.space, Text.dot, Message.source, Line.digits, Line.sign as Output·sign, Line.cell as Output·cell, Line.cells as Output·cells};
+ghost use Rattle.model.specs.{Line.heading as Output·heading, Line.lineBytes, Stored.side};
+ghost use Rattle.write_line.specs.{Placed.placed, Line.columnsIn, Line.lineOf, Line.Roomy};
 
 fn sign(x: i32) -> u8
     ensures { λ r. ⌜ r ≡ Output·sign x ⌝ }

@@ -2,8 +2,8 @@
 use Rattle.model.specs.Parsed.{got}
 use Rattle.read_command.specs.Command.{wordAs}
 use Rattle.read_command.specs.declared.CommandWord.{CommandWord}
-use Rattle.read_command.proofs.Words.{lookup-at}
-use Rattle.read_command.proofs.Laws.{answered, WordRead, word-none, word-alone, word-more, alone-is, alone-not, parts-not}
+use Rattle.read_command.proofs.{Words.lookup-at, Laws.answered, Laws.WordRead, Laws.word-none, Laws.word-alone, Laws.word-more, Laws.alone-is, Laws.alone-not}
+use Rattle.read_command.proofs.{Laws.parts-not}
 use Prim.Native.Nat.{ℕ}
 use native.Mathlib.Omega.{arith}
 use mathlib.Core.List.{List}

@@ -1,7 +1,5 @@
 -- A variable and a number, read from left to right on either side of their space.
-use Rattle.model.specs.Limits.{variables}
-use Rattle.model.specs.Number.{upTo}
-use Rattle.model.specs.Parsed.{Parsed, got}
+use Rattle.model.specs.{Limits.variables, Number.upTo, Parsed.Parsed, Parsed.got}
 use Rattle.model.specs.declared.Command.{Command}
 use Rattle.read_text.specs.declared.Natural.{Natural}
 use Rattle.read_text.specs.Text.{naturalAs, wholeAs}
@@ -9,8 +7,7 @@ use Rattle.model.proofs.Accepted.{up-to-bound}
 use Rattle.read_command.specs.Command.{commandOf}
 use Rattle.read_command.proofs.Laws.{answered, FirstRead, two-not, two-read, mapped-got, mapped-refused}
 use lib.Seq.{length-take-le}
-use mir.ValLaws.{toZ-ofZ}
-use mir.Syntax.{w32}
+use mir.{ValLaws.toZ-ofZ, Syntax.w32}
 use Prim.Native.Nat.{ℕ, _-_}
 use native.Mathlib.Omega.{arith}
 use mathlib.Core.Path.{_≡_, _∙_, sym, ap, refl}

@@ -1,6 +1,5 @@
 -- Two parts, read from left to right on either side of their space.
-use Rattle.model.specs.Number.{upTo}
-use Rattle.model.specs.Parsed.{Parsed, got}
+use Rattle.model.specs.{Number.upTo, Parsed.Parsed, Parsed.got}
 use Rattle.read_text.specs.declared.Natural.{Natural}
 use Rattle.read_text.specs.Text.{naturalAs}
 use Rattle.read_command.proofs.Laws.{answered, FirstRead, two-not, two-read}

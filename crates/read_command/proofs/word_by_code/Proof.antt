@@ -1,6 +1,5 @@
 -- Each number of the match is that of a word of the table; any other is none of them.
-use Rattle.model.specs.Text.{bytes}
-use Rattle.model.specs.Command.{table}
+use Rattle.model.specs.{Text.bytes, Command.table}
 use Rattle.read_command.specs.Code.{packed, withCount, codeOf, lookupCode}
 use Rattle.read_command.proofs.Words.{NoneOf, no-code}
 use mathlib.Core.Path.{sym, ap}

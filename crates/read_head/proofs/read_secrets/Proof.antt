@@ -3,16 +3,9 @@ use Prim.Native.Nat.{_≤_, _<_, _+_, _-_}
 use mathlib.Core.Path.{_≡_, _∙_, sym, ap}
 use native.Mathlib.Omega.{arith}
 use borrow.Author.Needs.{needs}
-use lib.IntN.{ℤ}
-use lib.ListN.{length, take, drop}
-use mir.Syntax.{w32}
-use mir.Val.{toZ, ofZ}
-use mir.ValLaws.{toZ-ofZ}
-use Rattle.model.specs.Parsed.{got}
-use Rattle.model.specs.Text.{bytes}
-use Rattle.model.specs.Pair.{pair}
-use Rattle.model.specs.Head.{secretLine, allOpen, readSecrets}
-use Rattle.model.specs.Stored.{keyCapacity, keyIn, openSlot}
+use lib.{IntN.ℤ, ListN.length, ListN.take, ListN.drop}
+use mir.{Syntax.w32, Val.toZ, Val.ofZ, ValLaws.toZ-ofZ}
+use Rattle.model.specs.{Parsed.got, Text.bytes, Pair.pair, Head.secretLine, Head.allOpen, Head.readSecrets, Stored.keyCapacity, Stored.keyIn, Stored.openSlot}
 use Rattle.model.proofs.Accepted.{keys-rise}
 use Rattle.read_text.proofs.Laws.{rest}
 use Rattle.read_line.proofs.Laws.{Going, placed, going-on, going-left, going-bad, going-bound, going-more}

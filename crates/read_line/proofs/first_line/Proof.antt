@@ -1,8 +1,7 @@
 -- Another start, no line feed, or the line: the three cases of a text's first line.
 use mathlib.Core.Path.{_∙_, sym, ap}
 use native.Mathlib.Omega.{arith}
-use borrow.Author.Needs.{needs}
-use borrow.Author.Tests.{not-true, not-false}
+use borrow.Author.{Needs.needs, Tests.not-true, Tests.not-false}
 use lib.ListN.{length, length-drop}
 use Rattle.read_text.proofs.Laws.{rest, starts-length}
 use Rattle.read_line.proofs.Laws.{headed-other, headed-short, headed-at}

@@ -3,20 +3,12 @@ use Prim.Native.Nat.{_≤_, _<_, _-_}
 use mathlib.Core.Path.{_≡_, _∙_, sym, ap}
 use native.Mathlib.Omega.{arith}
 use borrow.Author.Needs.{needs}
-use lib.IntN.{ℤ}
-use lib.ListN.{length, take, drop, length-drop}
-use lib.Seq.{length-take-le}
-use mir.Syntax.{w32}
-use mir.Val.{toZ, ofZ}
-use mir.ValLaws.{toZ-ofZ}
-use Rattle.model.specs.Parsed.{got}
-use Rattle.model.specs.Text.{comma, split}
-use Rattle.model.specs.Pair.{pair}
-use Rattle.model.specs.Messages.{allAbsent, parts, message}
-use Rattle.model.specs.Stored.{keyCapacity, entryIn, absentSlot}
+use lib.{IntN.ℤ, ListN.length, ListN.take, ListN.drop, ListN.length-drop, Seq.length-take-le}
+use mir.{Syntax.w32, Val.toZ, Val.ofZ, ValLaws.toZ-ofZ}
+use Rattle.model.specs.{Parsed.got, Text.comma, Text.split, Pair.pair, Messages.allAbsent, Messages.parts, Messages.message, Stored.keyCapacity, Stored.entryIn}
+use Rattle.model.specs.{Stored.absentSlot}
 use Rattle.model.proofs.Accepted.{keys-rise}
-use Rattle.read_text.proofs.Laws.{rest}
-use Rattle.read_text.proofs.Lines.{find-le}
+use Rattle.read_text.proofs.{Laws.rest, Lines.find-le}
 use Rattle.read_pair.specs.Pair.{pairAs, byKey}
 use Rattle.read_pair.proofs.Laws.{by-key-blank}
 use Rattle.read_messages.proofs.Laws.{message-empty, message-parts, line-bad, line-ok, turn-bad, turn-last, turn-more}

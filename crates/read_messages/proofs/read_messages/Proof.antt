@@ -5,13 +5,9 @@ use mathlib.Core.List.{[], map}
 use native.Mathlib.Omega.{arith}
 use borrow.Author.Needs.{needs}
 use lib.ListN.{length, length-set, take, drop}
-use Rattle.model.specs.Limits.{mostMessages}
-use Rattle.model.specs.Text.{bytes}
-use Rattle.model.specs.Phase.{oneMore}
-use Rattle.model.specs.Messages.{messageLine, readMessages}
-use Rattle.model.specs.Stored.{messageCapacity, entriesIn}
+use Rattle.model.specs.{Limits.mostMessages, Text.bytes, Phase.oneMore, Messages.messageLine, Messages.readMessages, Stored.messageCapacity, Stored.entriesIn}
 use Rattle.read_text.proofs.Laws.{rest}
-use Rattle.read_line.specs.Line.{checkedAs}
+use Rattle.read_line.specs.Phase.{checkedAs}
 use Rattle.read_line.specs.declared.Checked.{Checked}
 use Rattle.read_line.proofs.Laws.{Going, placed, going-on, going-left, going-bad, going-bound, going-more, array-full, array-bad, array-ok}
 use Rattle.read_messages.proofs.Laws.{msg-word}

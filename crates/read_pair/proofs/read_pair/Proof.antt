@@ -3,12 +3,9 @@ use Prim.Native.Nat.{_+_, _-_}
 use mathlib.Core.Path.{_≡_, _∙_, sym, ap}
 use native.Mathlib.Omega.{arith}
 use borrow.Author.Needs.{needs}
-use lib.ListN.{take, drop}
-use lib.Seq.{length-take-le}
-use mir.Syntax.{w32}
-use mir.ValLaws.{toZ-ofZ}
-use Rattle.model.specs.Number.{number, upTo}
-use Rattle.model.specs.Parsed.{got}
+use lib.{ListN.take, ListN.drop, Seq.length-take-le}
+use mir.{Syntax.w32, ValLaws.toZ-ofZ}
+use Rattle.model.specs.{Number.number, Number.upTo, Parsed.got}
 use Rattle.read_text.specs.Text.{naturalAs, wholeAs}
 use Rattle.read_text.proofs.Laws.{rest}
 use Rattle.read_pair.proofs.Laws.{pair-no-colon, pair-key-bad, pair-order, pair-value-bad, pair-ok}

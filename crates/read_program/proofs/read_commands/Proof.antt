@@ -5,11 +5,7 @@ use mathlib.Core.List.{[], map}
 use native.Mathlib.Omega.{arith}
 use borrow.Author.Needs.{needs}
 use lib.ListN.{length, length-set, take, drop}
-use Rattle.model.specs.Limits.{mostCommands}
-use Rattle.model.specs.Text.{bytes}
-use Rattle.model.specs.Command.{limits, readCommand}
-use Rattle.model.specs.Phase.{oneMore}
-use Rattle.model.specs.Stored.{commandCapacity}
+use Rattle.model.specs.{Limits.mostCommands, Text.bytes, Command.limits, Command.readCommand, Phase.oneMore, Stored.commandCapacity}
 use Rattle.read_text.proofs.Laws.{rest}
 use Rattle.read_line.proofs.Laws.{Going, placed, going-on, going-left, going-bad, going-bound, going-more, array-full, array-bad, array-ok}
 use Rattle.read_command.specs.Command.{lineAs}

@@ -4,10 +4,8 @@ use mathlib.Core.List.{List}
 use mathlib.Core.Path.{_∙_}
 use native.Mathlib.Omega.{arith}
 use borrow.Author.Needs.{needs}
-use lib.ListN.{length}
-use lib.Seq.{length-take-le}
-use Rattle.model.specs.Stored.{jobOf}
-use Rattle.model.specs.Limits.{mostBytes}
+use lib.{ListN.length, Seq.length-take-le}
+use Rattle.model.specs.{Stored.jobOf, Limits.mostBytes}
 use Rattle.read_text.proofs.Laws.{rest}
 use Rattle.read_sheet.proofs.Laws.{answers, from, reached, bounded, stop-commands, stop-messages, stop-turns, body-read}
 use Rattle.read_sheet.proofs.read_body.Statement.{statement}

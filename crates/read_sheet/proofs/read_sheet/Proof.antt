@@ -1,8 +1,7 @@
 -- The refusals 1 and 2 in their order, and then the lines.
 use mathlib.Core.Path.{_∙_, sym}
 use native.Mathlib.Omega.{arith}
-use borrow.Author.Needs.{needs}
-use borrow.Author.Tests.{not-true, not-false}
+use borrow.Author.{Needs.needs, Tests.not-true, Tests.not-false}
 use Rattle.read_text.proofs.Laws.{count-most}
 use Rattle.read_sheet.proofs.Laws.{answers, forbidden-most, sheet-long, sheet-forbidden, sheet-open, sheet-lines}
 use Rattle.read_sheet.proofs.read_sheet.Statement.{statement}

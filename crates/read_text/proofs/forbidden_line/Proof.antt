@@ -3,9 +3,8 @@ use mathlib.Core.Path.{sym, ap, _∙_}
 use native.Mathlib.Omega.{arith}
 use borrow.Author.Needs.{needs}
 use Prim.Native.Nat.{ℕ, _+_, _<_}
-use lib.ListN.{length, take}
+use lib.{ListN.length, ListN.take, Seq.length-take-le}
 use Rattle.model.specs.Text.{count}
-use lib.Seq.{length-take-le}
 use Rattle.read_text.proofs.Laws.{forbidden-none, forbidden-found, count-most}
 use Rattle.read_text.proofs.forbidden_line.Statement.{statement}
 use Rattle.read_text.proofs.forbidden_line.Tie as tie

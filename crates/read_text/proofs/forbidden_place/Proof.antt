@@ -5,8 +5,7 @@ use native.Mathlib.Omega.{arith}
 use lib.ListN.{length, drop, getD}
 use Rattle.model.specs.Text.{classOf}
 use Rattle.read_text.specs.Text.{forbiddenPlace}
-use Rattle.read_text.proofs.Laws.{forbidden-here, forbidden-next, forbidden-end}
-use Rattle.read_text.proofs.Table.{class-at}
+use Rattle.read_text.proofs.{Laws.forbidden-here, Laws.forbidden-next, Laws.forbidden-end, Table.class-at}
 use Rattle.read_text.proofs.forbidden_place.Statement.{statement}
 use Rattle.read_text.proofs.forbidden_place.Tie as tie
 

@@ -1,12 +1,8 @@
 -- A number from 1 to the least's magnitude, negated by way of an i64.
-use Rattle.model.specs.Limits.{leastNumber}
-use Rattle.model.specs.Number.{upTo}
-use mir.Syntax.{w64}
-use mir.ValLaws.{toZ-ofZ}
-use Rattle.read_text.proofs.Signed.{negated, fits64, fits32, back}
+use Rattle.model.specs.{Limits.leastNumber, Number.upTo, Parsed.got}
+use mir.{Syntax.w64, ValLaws.toZ-ofZ}
+use Rattle.read_text.proofs.{Signed.negated, Signed.fits64, Signed.fits32, Signed.back, Laws.negative-bad, Laws.negative-zero, Laws.negative-ok}
 use Rattle.model.proofs.Accepted.{up-to-bound}
-use Rattle.read_text.proofs.Laws.{negative-bad, negative-zero, negative-ok}
-use Rattle.model.specs.Parsed.{got}
 use Rattle.read_text.specs.Text.{naturalAs}
 use native.Mathlib.Omega.{arith}
 use Prim.Native.Nat.{_≤_}

@@ -1,12 +1,9 @@
 -- A number up to the greatest, as an i32.
-use Rattle.model.specs.Limits.{greatestNumber}
-use Rattle.model.specs.Number.{upTo}
+use Rattle.model.specs.{Limits.greatestNumber, Number.upTo, Parsed.got}
 use Rattle.read_text.specs.Text.{naturalAs}
-use mir.ValLaws.{toZ-pos}
-use mir.Syntax.{w32}
+use mir.{ValLaws.toZ-pos, Syntax.w32}
 use Rattle.model.proofs.Accepted.{up-to-bound}
 use Rattle.read_text.proofs.Laws.{positive-bad, positive-ok}
-use Rattle.model.specs.Parsed.{got}
 use native.Mathlib.Omega.{arith}
 use Prim.Native.Nat.{_≤_}
 use mathlib.Core.Path.{_≡_, _∙_, sym, ap}

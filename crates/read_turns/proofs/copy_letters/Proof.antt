@@ -3,11 +3,9 @@ use Prim.Native.Nat.{_≤_, _-_}
 use mathlib.Core.Path.{_≡_, _∙_, sym, refl}
 use mathlib.Core.List.{map}
 use native.Mathlib.Omega.{arith}
-use borrow.Author.Needs.{needs}
-use borrow.Author.Tests.{not-true, not-false}
+use borrow.Author.{Needs.needs, Tests.not-true, Tests.not-false}
 use lib.ListN.{length, take, drop, length-set}
-use Rattle.model.specs.Turns.{letters, turnsLine}
-use Rattle.model.specs.Stored.{letterCapacity, levelOf}
+use Rattle.model.specs.{Turns.letters, Turns.turnsLine, Stored.letterCapacity, Stored.levelOf}
 use Rattle.read_turns.proofs.Laws.{onto, onto-none, letters-end, letters-bad, letters-next, letter-is, letter-is-not, turns-long, turns-none, turns-letters}
 use Rattle.read_turns.proofs.copy_letters.Statement.{statement}
 use Rattle.read_turns.proofs.copy_letters.Tie as tie

@@ -7,9 +7,8 @@ use borrow.Author.Needs.{needs}
 use lib.ListN.{take}
 use Rattle.model.specs.Stored.{levelOf}
 use Rattle.read_text.proofs.Laws.{rest}
-use Rattle.read_line.specs.Line.{Reads, checkedAs}
-use Rattle.read_line.specs.declared.Checked.{Checked}
-use Rattle.read_line.specs.declared.Phase.the-variants.{Got}
+use Rattle.read_line.specs.Phase.{Reads, checkedAs}
+use Rattle.read_line.specs.declared.{Checked.Checked, Phase.the-variants.Got}
 use Rattle.read_line.proofs.Laws.{placed, one-other, one-bad, one-ok}
 use Rattle.read_turns.proofs.Laws.{turns-word, theLine, last-refused, last-more, last-none}
 use Rattle.read_turns.proofs.read_turns.Statement.{statement}

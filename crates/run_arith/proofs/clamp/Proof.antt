@@ -1,9 +1,7 @@
 -- The three cases; the machine reads x back from its bits.
 use mathlib.Core.Path.{_≡_}
 use borrow.Author.Needs.{needs}
-use mir.Syntax.{w32, w64}
-use mir.Val.{SFits, toZ, ofZ}
-use mir.Facts.{toZ-ofZ}
+use mir.{Syntax.w32, Syntax.w64, Val.SFits, Val.toZ, Val.ofZ, Facts.toZ-ofZ}
 use Rattle.run_arith.proofs.Laws.{clamp-low, clamp-high, clamp-in, in-fits}
 use Rattle.run_arith.proofs.clamp.Statement.{statement}
 use Rattle.run_arith.proofs.clamp.Tie as tie

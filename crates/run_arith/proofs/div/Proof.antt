@@ -1,8 +1,7 @@
 -- The law of an operation that is done at i64 and clamped, at `quotZ`; a zero divisor by itself.
 use mathlib.Core.Path.{_∙_}
 use borrow.Author.Needs.{needs}
-use mir.Facts.{toZ-ofZ}
-use mir.Syntax.{w32}
+use mir.{Facts.toZ-ofZ, Syntax.w32}
 use lib.Signed.{quotZ}
 use Rattle.run_arith.proofs.Laws.{widens, asked, answered, quot-fits, bits-zero, bits-nonzero, wide-bits, div-by-zero, div-by}
 use Rattle.run_arith.proofs.div.Statement.{statement}

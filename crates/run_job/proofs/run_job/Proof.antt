@@ -2,8 +2,7 @@
 use mathlib.Core.Path.{sym, _∙_}
 use native.Mathlib.Omega.{arith}
 use borrow.Author.Needs.{needs}
-use lib.ListN.{take, length-map}
-use lib.Seq.{length-take-le}
+use lib.{ListN.take, ListN.length-map, Seq.length-take-le}
 use Rattle.model.specs.Stored.{jobOf, keyIn, entriesIn}
 use Rattle.model.proofs.Stored.{first-count}
 use Rattle.run_job.proofs.run_job.Statement.{statement}

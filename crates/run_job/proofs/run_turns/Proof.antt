@@ -4,20 +4,15 @@ use mathlib.Core.Path.{_≡_, sym, ap, _∙_}
 use mathlib.Core.Bool.{false}
 use mathlib.Core.List.{[]}
 use native.Mathlib.Omega.{arith}
-use borrow.Author.Needs.{needs}
-use borrow.Author.Tests.{leb-false, lt-ltb}
-use lib.Dec.{leb}
-use lib.ListN.{length, getD}
-use Rattle.model.specs.Step.{callOf}
-use Rattle.model.specs.Stored.{keyCapacity, commandCapacity, messageCapacity, jobFrom}
-use Rattle.model.specs.Turns.{letterL}
-use Rattle.model.specs.Verdict.{verdictBy, idles}
+use borrow.Author.{Needs.needs, Tests.leb-false, Tests.lt-ltb}
+use lib.{Dec.leb, ListN.length, ListN.getD}
+use Rattle.model.specs.{Step.callOf, Stored.keyCapacity, Stored.commandCapacity, Stored.messageCapacity, Stored.jobFrom, Turns.letterL, Verdict.verdictBy, Verdict.idles}
 use Rattle.model.specs.declared.Call.{Call}
 use Rattle.run_verdict.specs.Verdict.{lacksRoom}
-use Rattle.run_job.proofs.Laws.{commandAt, goes-on}
-use Rattle.run_job.proofs.Views.{InArrays}
-use Rattle.run_job.proofs.Turns.{Inv, Taken, verdictHere, starts, readable-below, room-enough, counts-fit, found, answers}
-use Rattle.run_job.proofs.Turns.{at-few, steps-few, called-fits, written-few, key-few, may-step-low, low-receives, low-sends, low-does, key-few-high, may-step-high, high-idles, high-does}
+use Rattle.run_job.proofs.{Laws.commandAt, Laws.goes-on, Views.InArrays, Turns.Inv, Turns.Taken, Turns.verdictHere, Turns.starts, Turns.readable-below}
+use Rattle.run_job.proofs.{Turns.room-enough, Turns.counts-fit, Turns.found, Turns.answers, Turns.at-few, Turns.steps-few, Turns.called-fits, Turns.written-few}
+use Rattle.run_job.proofs.{Turns.key-few, Turns.may-step-low, Turns.low-receives, Turns.low-sends, Turns.low-does, Turns.key-few-high, Turns.may-step-high}
+use Rattle.run_job.proofs.{Turns.high-idles, Turns.high-does}
 use Rattle.run_job.proofs.run_turns.Statement.{statement}
 use Rattle.run_job.proofs.run_turns.Tie as tie
 

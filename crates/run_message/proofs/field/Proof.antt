@@ -2,10 +2,7 @@
 use mathlib.Core.Path.{sym, ap, _∙_}
 use borrow.Author.Needs.{needs}
 use lib.IntN.{ℤ}
-use Rattle.model.specs.declared.Entry.{Entry}
-use Rattle.model.specs.declared.Entry.the-variants.{Number}
-use Rattle.model.specs.declared.Field.{Field}
-use Rattle.model.specs.declared.Key.{Key}
+use Rattle.model.specs.declared.{Entry.Entry, Entry.the-variants.Number, Field.Field, Key.Key}
 use Rattle.run_message.specs.Message.{fieldOf}
 use Rattle.run_message.proofs.Laws.{field-open, field-secret}
 use Rattle.run_message.proofs.field.Statement.{statement}

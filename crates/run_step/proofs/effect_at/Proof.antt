@@ -1,9 +1,7 @@
 -- Each word by itself: what the arithmetic, the entry and the tests give, in the place of the effect.
 use borrow.Author.Needs.{needs}
 use mathlib.Core.Path.{_≡_, _∙_}
-use mir.Syntax.{w32}
-use mir.Val.{toZ, ofZ}
-use mir.ValLaws.{toZ-ofZ}
+use mir.{Syntax.w32, Val.toZ, Val.ofZ, ValLaws.toZ-ofZ}
 use Rattle.run_arith.proofs.Laws.{returned}
 use Rattle.run_step.proofs.effect_at.Statement.{statement}
 use Rattle.run_step.proofs.effect_at.Tie as tie

@@ -1,6 +1,5 @@
 -- The machine reads the number back from its bits.
-use mir.Syntax.{w32}
-use mir.ValLaws.{toZ-ofZ}
+use mir.{Syntax.w32, ValLaws.toZ-ofZ}
 use Rattle.run_step.proofs.if_neg.Statement.{statement}
 use Rattle.run_step.proofs.if_neg.Tie as tie
 

@@ -1,9 +1,7 @@
 -- The test is on the bits of the number.
 use mathlib.Core.Path.{_∙_, sym, ap}
 use mathlib.Core.Bool.{cond}
-use mir.Syntax.{w32}
-use mir.Val.{toZ, ofZ}
-use mir.ValLaws.{toZ-ofZ}
+use mir.{Syntax.w32, Val.toZ, Val.ofZ, ValLaws.toZ-ofZ}
 use Rattle.model.specs.Arith.{isZero}
 use Rattle.run_step.proofs.Laws.{nonzero}
 use Rattle.run_step.proofs.if_zero.Statement.{statement}

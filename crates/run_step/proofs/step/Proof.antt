@@ -4,8 +4,7 @@ use mathlib.Core.Path.{_≡_, ap, ap₂, _∙_}
 use native.Mathlib.Omega.{arith}
 use borrow.Author.Needs.{needs, sfits-of}
 use lib.IntN.{ℤ}
-use mir.Syntax.{w32}
-use mir.ValLaws.{toZ-ofZ}
+use mir.{Syntax.w32, ValLaws.toZ-ofZ}
 use Rattle.model.specs.Step.{variable, afterOf}
 use Rattle.run_step.specs.Step.{effectOf}
 use Rattle.run_step.specs.declared.Effect.{Effect}

@@ -1,6 +1,5 @@
 -- Another letter than L; the three kinds of call.
-use borrow.Author.Needs.{needs}
-use borrow.Author.Tests.{eq-eqb, ne-eqb}
+use borrow.Author.{Needs.needs, Tests.eq-eqb, Tests.ne-eqb}
 use Rattle.model.specs.Verdict.{short}
 use Rattle.run_verdict.proofs.lacks_room.Statement.{statement}
 use Rattle.run_verdict.proofs.lacks_room.Tie as tie

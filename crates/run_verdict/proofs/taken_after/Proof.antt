@@ -1,6 +1,5 @@
 -- The two cases of the test.
-use borrow.Author.Needs.{needs}
-use borrow.Author.Tests.{lt-ltb, le-ltb}
+use borrow.Author.{Needs.needs, Tests.lt-ltb, Tests.le-ltb}
 use Rattle.run_verdict.proofs.taken_after.Statement.{statement}
 use Rattle.run_verdict.proofs.taken_after.Tie as tie
 

@@ -4,7 +4,7 @@ use lib.IntN.{ℤ, natAbs}
 use Rattle.model.specs.declared.Entry.{Entry}
 use Rattle.write_line.specs.Placed.{placed}
 use mathlib.Core.List.{_∷_}
-use Rattle.model.specs.Output.{cell, sign, digits}
+use Rattle.model.specs.Line.{cell, sign, digits}
 use borrow.Author.Needs.{needs}
 use Rattle.write_line.proofs.cell.Statement.{statement}
 use Rattle.write_line.proofs.cell.Tie as tie

@@ -4,9 +4,8 @@ use Prim.Native.Nat.{_+_, _*_, _-_, _≤_}
 use native.Mathlib.Omega.{arith}
 use borrow.Author.Needs.{needs}
 use lib.ListN.{length, drop}
-use Rattle.model.specs.Output.{cells}
-use Rattle.write_line.specs.Placed.{placed}
-use Rattle.write_line.specs.Line.{columnsIn}
+use Rattle.model.specs.Line.{cells}
+use Rattle.write_line.specs.{Placed.placed, Line.columnsIn}
 use Rattle.write_line.proofs.Laws.{columns-at, columns-count, cells-again, cells-end}
 use Rattle.write_line.proofs.cells.Statement.{statement}
 use Rattle.write_line.proofs.cells.Tie as tie

@@ -3,11 +3,8 @@ use mathlib.Core.Path.{_≡_, _∙_}
 use Prim.Native.Nat.{_+_}
 use native.Mathlib.Omega.{arith}
 use borrow.Author.Needs.{needs}
-use lib.IntN.{pos, negsuc, natAbs, _-ℤ_}
-use lib.Signed.{mag}
-use mir.Syntax.{w32}
-use mir.Val.{toZ, ofZ}
-use mir.Facts.{toZ-ofZ, fits-natAbs}
+use lib.{IntN.pos, IntN.negsuc, IntN.natAbs, IntN._-ℤ_, Signed.mag}
+use mir.{Syntax.w32, Val.toZ, Val.ofZ, Facts.toZ-ofZ, Facts.fits-natAbs}
 use Rattle.write_line.proofs.Signs.{below-one, notneg}
 use Rattle.write_line.proofs.magnitude.Statement.{statement}
 use Rattle.write_line.proofs.magnitude.Tie as tie

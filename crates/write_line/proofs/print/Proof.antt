@@ -4,11 +4,9 @@ use native.Mathlib.Omega.{arith}
 use mathlib.Core.Path.{ap, _∙_}
 use mathlib.Core.List.{_∷_}
 use Prim.Native.Nat.{ℕ}
-use lib.IntN.{natAbs}
-use lib.ListN.{length-set}
-use mir.Syntax.{w32}
-use mir.Facts.{toZ-ofZ}
-use Rattle.model.specs.Output.{digits, sign}
+use lib.{IntN.natAbs, ListN.length-set}
+use mir.{Syntax.w32, Facts.toZ-ofZ}
+use Rattle.model.specs.Line.{digits, sign}
 use Rattle.write_line.specs.Placed.{placed}
 use Rattle.write_line.proofs.Places.{placed-cons}
 use Rattle.write_line.proofs.print.Statement.{statement}

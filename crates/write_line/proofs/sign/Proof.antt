@@ -1,6 +1,5 @@
 -- The two cases of the sign.
-use mir.Syntax.{w32}
-use mir.Facts.{toZ-ofZ}
+use mir.{Syntax.w32, Facts.toZ-ofZ}
 use Rattle.write_line.proofs.Signs.{sign-neg, sign-pos}
 use Rattle.write_line.proofs.sign.Statement.{statement}
 use Rattle.write_line.proofs.sign.Tie as tie

@@ -1,15 +1,12 @@
 -- The memory with the digits that are still to write in it is the memory that is to be left.
-use native.Mathlib.Omega.{arith}
-use native.Mathlib.Nat.{le-of-suc-le-suc, not-suc-le-zero, add-suc, add-zero}
+use native.Mathlib.{Omega.arith, Nat.le-of-suc-le-suc, Nat.not-suc-le-zero, Nat.add-suc, Nat.add-zero}
 use mathlib.Core.Path.{_≡_, refl, sym, ap, _∙_}
 use mathlib.Core.List.{List, [], _∷_, _++_}
 use Prim.Native.Nat.{ℕ, zero, suc, _+_, _-_, _/_, _%_, _≤_, _<_}
-use lib.ListN.{length, take, drop, set, length-set, take-append-drop}
-use lib.Seq.{take-set-le, append-snoc}
-use Rattle.model.specs.Text.{zeroDigit}
-use Rattle.model.specs.Output.{digits}
+use lib.{ListN.length, ListN.take, ListN.drop, ListN.set, ListN.length-set, ListN.take-append-drop, Seq.take-set-le, Seq.append-snoc}
+use Rattle.model.specs.{Text.zeroDigit, Line.digits}
 use Rattle.write_line.specs.Placed.{placed}
-use Rattle.model.proofs.Output.{digits-length}
+use Rattle.model.proofs.Line.{digits-length}
 use Rattle.write_line.proofs.spell.Statement.{statement}
 use Rattle.write_line.proofs.spell.Tie as tie
 

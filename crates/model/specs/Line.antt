@@ -2,12 +2,9 @@
 use Prim.Native.Nat.{ℕ, zero, suc, _+_, _/_, _%_, _*_}
 use mathlib.Core.List.{List, [], _∷_, _++_}
 use mathlib.Core.Bool.{cond}
-use lib.IntN.{ℤ, natAbs}
-use lib.Signed.{nonNeg}
-use lib.ListN.{replicate, length, drop}
-use Rattle.model.specs.Text.{bytes, lineFeed, space, plus, minus, dot, zeroDigit}
-use Rattle.model.specs.State.{Sent}
-use Rattle.model.specs.Data.{Entry, Absent, Number, Key}
+use lib.{IntN.ℤ, IntN.natAbs, Signed.nonNeg, ListN.replicate, ListN.length, ListN.drop}
+use Rattle.model.specs.{Text.bytes, Text.lineFeed, Text.space, Text.plus, Text.minus, Text.dot, Text.zeroDigit, State.Sent, Data.Entry, Data.Absent, Data.Number}
+use Rattle.model.specs.{Data.Key}
 
 -- the last w decimal digits of a number
 unfoldable pub digits : ℕ → ℕ → List ℕ

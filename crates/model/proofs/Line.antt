@@ -3,19 +3,10 @@ use Prim.Native.Nat.{ℕ, zero, suc, _+_, _*_, _-_, _/_, _%_, _<_, _≤_, zero-l
 use mathlib.Core.Path.{_≡_, refl, sym, _∙_, ap, subst}
 use mathlib.Core.Logic.{_⊎_, inl, inr, ⊎-elim}
 use mathlib.Core.List.{List, [], _∷_, _++_}
-use lib.ListN.{length, getD, length-append, List·getD-append}
-use lib.Seq.{getD-append-add}
-use lib.IntN.{natAbs}
-use native.Mathlib.Omega.{arith}
-use native.Mathlib.Numerals.{add-one}
-use native.Mathlib.Nat.{mod-eq-of-lt, add-mod-left}
-use native.Mathlib.Decide.{decLt}
-use Rattle.model.specs.Text.{bytes, lineFeed}
-use Rattle.model.specs.State.{Sent}
-use Rattle.model.specs.Message.{source}
-use Rattle.model.specs.Output.{digits, cell, cells, heading, lineBytes, lineLength, bytesOf}
-use Rattle.model.specs.Accepted.{Every}
-use Rattle.model.specs.Data.{Entry, Absent, Number, Key, Open, Level}
+use lib.{ListN.length, ListN.getD, ListN.length-append, ListN.List·getD-append, Seq.getD-append-add, IntN.natAbs}
+use native.Mathlib.{Omega.arith, Numerals.add-one, Nat.mod-eq-of-lt, Nat.add-mod-left, Decide.decLt}
+use Rattle.model.specs.{Text.bytes, Text.lineFeed, State.Sent, Message.source, Line.digits, Line.cell, Line.cells, Line.heading, Line.lineBytes, Line.lineLength}
+use Rattle.model.specs.{Line.bytesOf, Accepted.Every, Data.Entry, Data.Absent, Data.Number, Data.Key, Data.Open, Data.Level}
 use Rattle.model.proofs.Lockstep.{Agree, done, next, LinesAgree, SentLike, none, more}
 
 -- ---- Lengths

@@ -1,11 +1,8 @@
 -- What a caller of the run shows of its arrays.
 use Prim.Native.Nat.{ℕ, _≤_}
 use mathlib.Core.List.{List}
-use Rattle.model.specs.Accepted.{Sound}
-use Rattle.model.specs.Stored.{keyCapacity, commandCapacity, messageCapacity, jobFrom}
-use Rattle.model.specs.declared.Command.{Command}
-use Rattle.model.specs.declared.KeySlot.{KeySlot}
-use Rattle.model.specs.declared.MessageLine.{MessageLine}
+use Rattle.model.specs.{Accepted.Sound, Stored.keyCapacity, Stored.commandCapacity, Stored.messageCapacity, Stored.jobFrom}
+use Rattle.model.specs.declared.{Command.Command, KeySlot.KeySlot, MessageLine.MessageLine}
 
 -- a job as reading gives it, within its arrays
 pub record Ready (keys : ℕ) (secrets : List KeySlot) (count : ℕ) (commands : List Command) (lines : ℕ) (messages : List MessageLine) (turns : List ℕ) : Type 0 where
