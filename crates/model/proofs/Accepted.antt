@@ -18,8 +18,8 @@ use Rattle.model.specs.{Turns.letters, Turns.turnsLine, Turns.nothingAft
 use Rattle.model.specs.{Phase.oneMore, Phase.some, Phase.numbered, Phase.onward, Phase.eachLine, Sheet.Reading, Sheet.accepted, Sheet.next, Sheet.targets}
 use Rattle.model.specs.{Sheet.readBody, Sheet.readLines, Sheet.forbiddenLine, Sheet.closed, Sheet.readSheet, Program.readCommands, Accepted.rowFor}
 use Rattle.model.specs.{Accepted.ordinal, Accepted.has, Accepted.kept, Accepted.Bare, Accepted.InRange, Accepted.KeyInRange, Accepted.EntryInRange, Accepted.Within}
-use Rattle.model.specs.{Accepted.Every, Accepted.Full, Accepted.Sound, Accepted.AcceptedSound, Accepted.KeysRise, Data.Entry, Data.Absent, Data.Number, Data.Key}
-use Rattle.model.specs.{Data.Open, Data.Secret, Data.Op, Data.Command, Data.Operand, Data.InV, Data.InW, Data.InK, Data.InT, Data.InN, Data.Level}
+use Rattle.model.specs.{Accepted.Every, Accepted.Full, Accepted.Sound, Accepted.AcceptedSound, Accepted.KeysRise}
+use Rattle.model.specs.Data.{Entry, Absent, Number, Key, Open, Secret, Op, Command, Operand, InV, InW, InK, InT, InN, Level}
 use Rattle.model.specs.Phase as Phase
 use Rattle.model.specs.Sheet as Sheet
 

@@ -9,8 +9,8 @@ use native.Mathlib.{Omega.arith, Nat.zero-add}
 use Rattle.model.specs.{Step.callOf, Job.Job, State.Sent, State.Common, State.State, State.fieldsOf, State.command, State.stopped, State.process, Run.Outcome}
 use Rattle.model.specs.{Run.share, Run.counted, Run.lead, Run.follow, Run.turn, Run.ended, Run.settle, Run.run, Run.initial, Run.runJob, Message.takes}
 use Rattle.model.specs.{Message.receive, Message.columns, Message.send, Line.lineLength, Verdict.written, Verdict.short, Verdict.noRoom, Verdict.verdictBy}
-use Rattle.model.specs.{Verdict.verdict, Counted.lows, Counted.Counted, Data.Entry, Data.Key, Data.Command, Data.Call, Data.Neither, Data.Receives, Data.Sends}
-use Rattle.model.specs.{Data.Level, Data.Low, Data.High, Data.Ending, Data.Stopped, Data.LettersUsed, Data.NoRoom}
+use Rattle.model.specs.{Verdict.verdict, Counted.lows, Counted.Counted}
+use Rattle.model.specs.Data.{Entry, Key, Command, Call, Neither, Receives, Sends, Level, Low, High, Ending, Stopped, LettersUsed, NoRoom}
 use Rattle.model.proofs.{Accepted.every-snoc, Line.Lined, Line.bytes-length}
 
 -- What holds of the lines sent, with room bytes lent

@@ -6,7 +6,8 @@ use mathlib.Core.List.{List, [], _∷_, _++_}
 use lib.{ListN.length, ListN.getD, ListN.length-append, ListN.List·getD-append, Seq.getD-append-add, IntN.natAbs}
 use native.Mathlib.{Omega.arith, Numerals.add-one, Nat.mod-eq-of-lt, Nat.add-mod-left, Decide.decLt}
 use Rattle.model.specs.{Text.bytes, Text.lineFeed, State.Sent, Message.source, Line.digits, Line.cell, Line.cells, Line.heading, Line.lineBytes, Line.lineLength}
-use Rattle.model.specs.{Line.bytesOf, Accepted.Every, Data.Entry, Data.Absent, Data.Number, Data.Key, Data.Open, Data.Level}
+use Rattle.model.specs.{Line.bytesOf, Accepted.Every}
+use Rattle.model.specs.Data.{Entry, Absent, Number, Key, Open, Level}
 use Rattle.model.proofs.Lockstep.{Agree, done, next, LinesAgree, SentLike, none, more}
 
 -- ---- Lengths

@@ -8,9 +8,9 @@ use native.Mathlib.Numerals.{one-add}
 use Rattle.model.specs.{Step.callOf, State.Process, State.Processes, State.Sent, State.Common, State.State, State.fieldsOf, State.refill, State.step, State.command}
 use Rattle.model.specs.{State.at, State.put, State.each, State.process, State.withProcess, Run.Outcome, Run.share, Run.counted, Run.lead, Run.followed, Run.follow}
 use Rattle.model.specs.{Run.turn, Run.ended, Run.settle, Run.run, Run.initial, Message.shown, Message.source, Message.fill, Message.takes, Message.received}
-use Rattle.model.specs.{Message.receive, Message.columns, Message.send, Verdict.written, Verdict.noRoom, Verdict.verdict, Data.Entry, Data.Absent, Data.Key}
-use Rattle.model.specs.{Data.Open, Data.Secret, Data.Command, Data.Call, Data.Neither, Data.Receives, Data.Sends, Data.Level, Data.Low, Data.High, Data.Ending}
-use Rattle.model.specs.{Data.LettersUsed, Data.Verdict, Data.GoesOn, Data.Ends}
+use Rattle.model.specs.{Message.receive, Message.columns, Message.send, Verdict.written, Verdict.noRoom, Verdict.verdict}
+use Rattle.model.specs.Data.{Entry, Absent, Key, Open, Secret, Command, Call, Neither, Receives, Sends, Level, Low, High, Ending, LettersUsed, Verdict, GoesOn}
+use Rattle.model.specs.Data.{Ends}
 
 -- ---- The laws of levels: all that depends on how many there are
 

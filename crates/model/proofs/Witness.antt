@@ -6,7 +6,8 @@ use lib.{ListN.getD, Signed.mag}
 use native.Mathlib.Omega.{arith}
 use Rattle.model.specs.{Job.Job, Step.presence, Answer.runSheet, Secrecy.OwnedBy, Secrecy.Alike, Secrecy.Indistinguishable, Accepted.rowFor, Accepted.has}
 use Rattle.model.specs.{Accepted.kept, Witness.keysA, Witness.sheet2, Witness.sheet3, Witness.job2, Witness.job3, Witness.lent, Witness.HiddenAt, Witness.Telling}
-use Rattle.model.specs.{Witness.BoundsReached, Witness.StopHasNoTarget, Data.Absent, Data.Open, Data.Command, Data.High}
+use Rattle.model.specs.{Witness.BoundsReached, Witness.StopHasNoTarget}
+use Rattle.model.specs.Data.{Absent, Open, Command, High}
 use Rattle.model.proofs.{Examples.opened, Secrecy.secrecy, Secrecy.sheet-secrecy}
 
 alike : Alike High job2 job3

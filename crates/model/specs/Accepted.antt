@@ -5,9 +5,9 @@ use mathlib.Core.Bool.{Bool, true, false, cond}
 use mathlib.Core.List.{List, [], _∷_}
 use mathlib.Core.Path.{_≡_}
 use Rattle.model.specs.{Limits.greatestNumber, Limits.variables, Limits.mostKeys, Limits.mostCommands, Limits.mostMessages, Limits.mostLetters, Command.Row}
-use Rattle.model.specs.{Command.table, Job.Job, Sheet.accepted, Sheet.readSheet, Parsed.got, Pair.pair, Data.Entry, Data.Absent, Data.Number, Data.Key, Data.Open}
-use Rattle.model.specs.{Data.Secret, Data.Op, Data.Set, Data.Add, Data.Sub, Data.Mul, Data.Div, Data.Read, Data.Has, Data.Put, Data.Drop, Data.IfNeg, Data.IfZero}
-use Rattle.model.specs.{Data.Jump, Data.Receive, Data.Send, Data.Stop, Data.Command, Data.Operand, Data.InV, Data.InW, Data.InK, Data.InT, Data.InN}
+use Rattle.model.specs.{Command.table, Job.Job, Sheet.accepted, Sheet.readSheet, Parsed.got, Pair.pair}
+use Rattle.model.specs.Data.{Entry, Absent, Number, Key, Open, Secret, Op, Set, Add, Sub, Mul, Div, Read, Has, Put, Drop, IfNeg, IfZero, Jump, Receive, Send, Stop}
+use Rattle.model.specs.Data.{Command, Operand, InV, InW, InK, InT, InN}
 
 -- "from -2147483648 to 2147483647": `mag` of a number n is n, and of -(n + 1) it is n too
 abbrev pub InRange : ℤ → Type 0

@@ -4,7 +4,8 @@ use mathlib.Core.List.{List, [], _∷_, _++_}
 use lib.{ListN.length, ListN.getD, ListN.take, Dec.ltb, Dec.eqb}
 use mathlib.Core.Bool.{cond}
 use Rattle.model.specs.{Text.bytes, Text.lineFeed, Text.space, Text.zeroDigit, Run.Outcome, Run.runJob, Line.memoryAfter, Sheet.Reading, Sheet.refused}
-use Rattle.model.specs.{Sheet.accepted, Sheet.readSheet, Data.Ending, Data.Stopped, Data.LettersUsed, Data.NoRoom, Data.Answer, Data.Ended, Data.Refused}
+use Rattle.model.specs.{Sheet.accepted, Sheet.readSheet}
+use Rattle.model.specs.Data.{Ending, Stopped, LettersUsed, NoRoom, Answer, Ended, Refused}
 
 -- the number of an ending, "From the state"
 abbrev pub endingNumber : Ending → ℕ

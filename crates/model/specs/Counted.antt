@@ -3,7 +3,8 @@ use Prim.Native.Nat.{ℕ, suc, _+_, _*_, _≤_}
 use mathlib.Core.List.{List, [], _∷_}
 use mathlib.Core.Path.{_≡_}
 use lib.ListN.{length, take}
-use Rattle.model.specs.{Job.Job, Line.bytesOf, Run.runJob, Data.Level, Data.Low, Data.High}
+use Rattle.model.specs.{Job.Job, Line.bytesOf, Run.runJob}
+use Rattle.model.specs.Data.{Level, Low, High}
 
 -- the L letters of a list
 unfoldable pub lows : List Level → ℕ

@@ -4,7 +4,8 @@ use Prim.Native.String.{String}
 use mathlib.Core.List.{List, [], _∷_, _++_}
 use lib.{IntN.ℤ, IntN.pos, IntN.negsuc, ListN.replicate}
 use mathlib.Core.Path.{_≡_}
-use Rattle.model.specs.{Step.variable, Step.does, Text.bytes, Answer.printed, Data.Absent, Data.Op, Data.Add, Data.Div}
+use Rattle.model.specs.{Step.variable, Step.does, Text.bytes, Answer.printed}
+use Rattle.model.specs.Data.{Absent, Op, Add, Div}
 
 -- An example: a sheet, run with so many bytes lent, prints a text; a command on two numbers gives a third
 pub data Example : Type 0 where

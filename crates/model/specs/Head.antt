@@ -2,7 +2,7 @@
 use mathlib.Core.List.{List}
 use Prim.Native.Nat.{ℕ}
 use Rattle.model.specs.{Parsed.Parsed, Number.fromOne, Text.bytes, Phase.Phase, Phase.one, Phase.many, Limits.mostKeys, Pair.ByKey, Pair.everywhere, Pair.part}
-use Rattle.model.specs.{Data.Key, Data.Open, Data.Secret}
+use Rattle.model.specs.Data.{Key, Open, Secret}
 
 -- "`sheet=1`, once." Refusal 4 names "the 1 of `sheet`".
 unfoldable pub sheetLine : List ℕ → Parsed ℕ

@@ -3,8 +3,8 @@ use Prim.Native.Nat.{ℕ, zero, suc, _+_, _/_, _%_, _*_}
 use mathlib.Core.List.{List, [], _∷_, _++_}
 use mathlib.Core.Bool.{cond}
 use lib.{IntN.ℤ, IntN.natAbs, Signed.nonNeg, ListN.replicate, ListN.length, ListN.drop}
-use Rattle.model.specs.{Text.bytes, Text.lineFeed, Text.space, Text.plus, Text.minus, Text.dot, Text.zeroDigit, State.Sent, Data.Entry, Data.Absent, Data.Number}
-use Rattle.model.specs.{Data.Key}
+use Rattle.model.specs.{Text.bytes, Text.lineFeed, Text.space, Text.plus, Text.minus, Text.dot, Text.zeroDigit, State.Sent}
+use Rattle.model.specs.Data.{Entry, Absent, Number, Key}
 
 -- the last w decimal digits of a number
 unfoldable pub digits : ℕ → ℕ → List ℕ

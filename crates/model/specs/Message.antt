@@ -2,8 +2,8 @@
 use mathlib.Core.List.{List, [], _∷_, _++_}
 use lib.ListN.{getD, drop, length, replicate}
 use Prim.Native.Nat.{_+_, ℕ, suc}
-use Rattle.model.specs.{State.Common, State.refill, State.State, State.each, State.fieldsOf, Data.Entry, Data.Absent, Data.Number, Data.Key, Data.Open, Data.Secret}
-use Rattle.model.specs.{Data.Level, Data.Low, Data.High}
+use Rattle.model.specs.State.{Common, refill, State, each, fieldsOf}
+use Rattle.model.specs.Data.{Entry, Absent, Number, Key, Open, Secret, Level, Low, High}
 
 -- ---- `receive`
 

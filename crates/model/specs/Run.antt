@@ -4,9 +4,8 @@ use Prim.Native.Nat.{ℕ, _+_}
 use mathlib.Core.Bool.{cond}
 use lib.ListN.{length, replicate}
 use Rattle.model.specs.{State.State, State.step, State.process, State.withProcess, State.Process, State.command, State.stopped, State.Common, State.Sent}
-use Rattle.model.specs.{Message.receive, Message.send, Step.callOf, Step.begun, Verdict.written, Verdict.verdict, Verdict.idles, Job.Job, Data.Entry, Data.Absent}
-use Rattle.model.specs.{Data.Key, Data.Command, Data.Call, Data.Neither, Data.Receives, Data.Sends, Data.Level, Data.Low, Data.High, Data.Ending, Data.LettersUsed}
-use Rattle.model.specs.{Data.Verdict, Data.GoesOn, Data.Ends, Data.Counts}
+use Rattle.model.specs.{Message.receive, Message.send, Step.callOf, Step.begun, Verdict.written, Verdict.verdict, Verdict.idles, Job.Job}
+use Rattle.model.specs.Data.{Entry, Absent, Key, Command, Call, Neither, Receives, Sends, Level, Low, High, Ending, LettersUsed, Verdict, GoesOn, Ends, Counts}
 
 -- ---- Turns
 

@@ -4,7 +4,7 @@ use Prim.Native.Nat.{ℕ, _<_, _+_, _*_, _%_, _≤_}
 use mathlib.Core.List.{[], List}
 use lib.ListN.{length, getD}
 use Rattle.model.specs.{Job.Job, Answer.Left, Answer.numbersOf, Answer.bytesWritten, Answer.leftBy, Answer.runSheet, Run.runJob, Sheet.accepted, Sheet.readSheet}
-use Rattle.model.specs.{Data.Absent, Data.Key, Data.Open, Data.Secret, Data.Level, Data.High}
+use Rattle.model.specs.Data.{Absent, Key, Open, Secret, Level, High}
 
 -- Whose secret a key is: a secret key's owner is the high level. (The statement is made over the owner o, so that it can be made for several.)
 abbrev pub OwnedBy : Level → Key → Type 0

@@ -4,7 +4,8 @@ use mathlib.Core.List.{List, [], _∷_}
 use mathlib.Core.Bool.{cond, Bool, false}
 use lib.{Dec.ltb, Dec.eqb, Dec.leb, ListN.length}
 use Rattle.model.specs.{Job.Job, Phase.Phase, Head.readFirst, Head.readKeys, Head.readSecrets, Program.readCommands, Messages.readMessages, Turns.readTurns}
-use Rattle.model.specs.{Text.classOf, Text.forbiddenClass, Text.lineFeed, Text.lines, Text.count, Limits.mostBytes, Data.Key, Data.Command}
+use Rattle.model.specs.{Text.classOf, Text.forbiddenClass, Text.lineFeed, Text.lines, Text.count, Limits.mostBytes}
+use Rattle.model.specs.Data.{Key, Command}
 use Rattle.model.specs.Phase as Phase
 
 -- "A sheet is accepted exactly when no refusal from the input other than 10 applies to it."

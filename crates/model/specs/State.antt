@@ -3,7 +3,8 @@ use mathlib.Core.List.{List}
 use Prim.Native.Nat.{ℕ}
 use lib.{ListN.getD, ListN.set, ListN.length, Dec.leb}
 use mathlib.Core.Bool.{Bool}
-use Rattle.model.specs.{Step.does, Command.blank, Data.Entry, Data.Absent, Data.Set, Data.Command, Data.Level, Data.Low, Data.High, Data.Execution, Data.Stepped}
+use Rattle.model.specs.{Step.does, Command.blank}
+use Rattle.model.specs.Data.{Entry, Absent, Set, Command, Level, Low, High, Execution, Stepped}
 
 -- ---- One execution on its own fields
 
@@ -60,7 +61,7 @@ pub record State : Type 0 where
   pub processes : Processes
   pub common : Common
 
--- the process of a level; another in its place; a change of each. Only these three name every level.
+-- the process of a level; another in its place; a change of each.
 unfoldable pub at : Level → Processes → Process
 at Low ps = ps .low
 at High ps = ps .high

@@ -2,9 +2,9 @@
 use lib.{IntN.ℤ, IntN.pos, ListN.getD, ListN.set, ListN.replicate, Signed.ltZ}
 use Prim.Native.Nat.{ℕ, _+_}
 use mathlib.Core.Bool.{cond}
-use Rattle.model.specs.{Limits.variables, Arith.sum, Arith.difference, Arith.product, Arith.quotient, Arith.isZero, Data.Entry, Data.Absent, Data.Number, Data.Op}
-use Rattle.model.specs.{Data.Set, Data.Add, Data.Sub, Data.Mul, Data.Div, Data.Read, Data.Has, Data.Put, Data.Drop, Data.IfNeg, Data.IfZero, Data.Jump}
-use Rattle.model.specs.{Data.Receive, Data.Send, Data.Stop, Data.Command, Data.Call, Data.Neither, Data.Receives, Data.Sends, Data.Execution, Data.Stepped}
+use Rattle.model.specs.{Limits.variables, Arith.sum, Arith.difference, Arith.product, Arith.quotient, Arith.isZero}
+use Rattle.model.specs.Data.{Entry, Absent, Number, Op, Set, Add, Sub, Mul, Div, Read, Has, Put, Drop, IfNeg, IfZero, Jump, Receive, Send, Stop, Command, Call}
+use Rattle.model.specs.Data.{Neither, Receives, Sends, Execution, Stepped}
 
 -- "v becomes the entry at k, 0 if absent"
 abbrev pub numberOf : Entry → ℤ

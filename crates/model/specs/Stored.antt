@@ -3,8 +3,8 @@ use Prim.Native.Nat.{ℕ, _≤_}
 use mathlib.Core.Bool.{cond}
 use mathlib.Core.List.{List, map}
 use lib.{Dec.eqb, ListN.length, ListN.take, ListN.replicate}
-use Rattle.model.specs.{Command.blank, Job.Job, Turns.letterL, Data.Entry, Data.Absent, Data.Field, Data.Key, Data.Open, Data.Stop, Data.Command, Data.Level}
-use Rattle.model.specs.{Data.Low, Data.High, Data.KeySlot, Data.EntrySlot, Data.MessageLine, Data.StoredJob}
+use Rattle.model.specs.{Command.blank, Job.Job, Turns.letterL}
+use Rattle.model.specs.Data.{Entry, Absent, Field, Key, Open, Stop, Command, Level, Low, High, KeySlot, EntrySlot, MessageLine, StoredJob}
 
 -- what the arrays hold: the constants of src/lib.rt
 abbrev pub keyCapacity : ℕ

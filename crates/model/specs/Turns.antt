@@ -4,7 +4,7 @@ use mathlib.Core.Bool.{cond}
 use lib.{Dec.eqb, Dec.leb, ListN.length}
 use mathlib.Core.List.{List, [], _∷_}
 use Rattle.model.specs.{Parsed.Parsed, Parsed.got, Parsed.refused, Parsed._>>=_, Parsed.need, Parsed._>>_, Limits.mostLetters, Text.bytes, Phase.Phase, Phase.one}
-use Rattle.model.specs.{Data.Level, Data.Low, Data.High}
+use Rattle.model.specs.Data.{Level, Low, High}
 use Rattle.model.specs.Phase as Phase
 
 -- the letters `L` and `H`

@@ -3,9 +3,8 @@ use Prim.Native.Nat.{ℕ, _*_, _-_}
 use mathlib.Core.List.{List, [], _∷_}
 use lib.{ListN.length, Dec.ltb, Dec.leb}
 use mathlib.Core.Bool.{Bool, false, true, cond}
-use Rattle.model.specs.{State.State, State.command, State.process, State.stopped, Line.lineLength, Step.callOf, Data.Key, Data.Command, Data.Call, Data.Neither}
-use Rattle.model.specs.{Data.Receives, Data.Sends, Data.Level, Data.Low, Data.High, Data.Stopped, Data.LettersUsed, Data.NoRoom, Data.Verdict, Data.GoesOn}
-use Rattle.model.specs.{Data.Ends}
+use Rattle.model.specs.{State.State, State.command, State.process, State.stopped, Line.lineLength, Step.callOf}
+use Rattle.model.specs.Data.{Key, Command, Call, Neither, Receives, Sends, Level, Low, High, Stopped, LettersUsed, NoRoom, Verdict, GoesOn, Ends}
 
 -- "Bytes written is 10 + 12 × K for each line sent."
 unfoldable pub written : List Key → State → ℕ

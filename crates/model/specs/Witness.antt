@@ -6,8 +6,8 @@ use mathlib.Core.Logic.{_≢_}
 use mathlib.Core.List.{List, [], _∷_}
 use lib.{IntN.pos, IntN.negsuc, ListN.length, ListN.getD, ListN.replicate}
 use Rattle.model.specs.{Command.blank, Job.Job, Sheet.accepted, Sheet.readSheet, Run.runJob, Answer.numbersOf, Answer.bytesWritten, Answer.leftBy, Answer.runSheet}
-use Rattle.model.specs.{Secrecy.Alike, Secrecy.Hidden, Secrecy.Indistinguishable, Accepted.Bare, Examples.sheetA, Examples.lentByRunsheet, Data.Entry, Data.Absent}
-use Rattle.model.specs.{Data.Number, Data.Key, Data.Open, Data.Secret, Data.Read, Data.Put, Data.Receive, Data.Send, Data.Stop, Data.Level, Data.Low, Data.High}
+use Rattle.model.specs.{Secrecy.Alike, Secrecy.Hidden, Secrecy.Indistinguishable, Accepted.Bare, Examples.sheetA, Examples.lentByRunsheet}
+use Rattle.model.specs.Data.{Entry, Absent, Number, Key, Open, Secret, Read, Put, Receive, Send, Stop, Level, Low, High}
 
 -- ---- What sheet A says, with this entry at the secret key of its message, and these letters
 

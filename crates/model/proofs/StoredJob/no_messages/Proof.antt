@@ -2,7 +2,8 @@ use mathlib.Core.Path.{ap}
 use mathlib.Core.List.{List}
 use lib.ListN.{replicate}
 use borrow.Author.Needs.{needs}
-use Rattle.model.specs.{Stored.messageCapacity, Data.EntrySlot}
+use Rattle.model.specs.Stored.{messageCapacity}
+use Rattle.model.specs.Data.{EntrySlot}
 use Rattle.model.proofs.StoredJob.no_messages.Statement.{statement}
 use Rattle.model.proofs.StoredJob.no_messages.Tie as tie
 
