@@ -14,6 +14,7 @@ pub use Rattle.model.specs.declared.Call.the-variants.{Neither, Receives
 pub use Rattle.model.specs.declared.Level.{Level}
 pub use Rattle.model.specs.declared.Level.the-variants.{Low, High}
 pub use Rattle.model.specs.declared.Execution.{Execution}
+pub use Rattle.model.specs.declared.Effect.{Effect}
 pub use Rattle.model.specs.declared.Stepped.{Stepped}
 pub use Rattle.model.specs.declared.Ending.{Ending}
 pub use Rattle.model.specs.declared.Ending.the-variants.{Stopped, LettersUsed, NoRoom}

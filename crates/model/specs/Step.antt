@@ -4,7 +4,7 @@ use Prim.Native.Nat.{ℕ, _+_}
 use mathlib.Core.Bool.{cond}
 use Rattle.model.specs.{Limits.variables, Arith.sum, Arith.difference, Arith.product, Arith.quotient, Arith.isZero}
 use Rattle.model.specs.Data.{Entry, Absent, Number, Op, Set, Add, Sub, Mul, Div, Read, Has, Put, Drop, IfNeg, IfZero, Jump, Receive, Send, Stop, Command, Call}
-use Rattle.model.specs.Data.{Neither, Receives, Sends, Execution, Stepped}
+use Rattle.model.specs.Data.{Neither, Receives, Sends, Execution, Effect, Stepped}
 
 -- "v becomes the entry at k, 0 if absent"
 abbrev pub numberOf : Entry → ℤ
@@ -32,41 +32,40 @@ calledOf x = record { place = x .place + 1; vars = x .vars; calls = x .calls + 1
 abbrev pub begun : Execution
 begun = record { place = 0; vars = replicate variables (pos 0); calls = 0 }
 
--- the four ways of a command: to go to a place, to change a variable, to change the entry, to call. All but the first go to the next place.
-abbrev pub goes : ℕ → Execution → Entry → Stepped
-goes t x e = record { execution = record { place = t; vars = x .vars; calls = x .calls }; entry = e }
+-- What a command does, in numbers and one entry. Where it gives its variable no value, that is the one it holds; where it leaves the entry, that is
+-- the one it finds.
+abbrev pub made : ℕ → ℤ → ℕ → Entry → Effect
+made p z n e = record { place = p; value = z; calls = n; entry = e }
 
-abbrev pub assigns : ℕ → ℤ → Execution → Entry → Stepped
-assigns v z x e = record { execution = record { place = x .place + 1; vars = set (x .vars) v z; calls = x .calls }; entry = e }
+-- The meanings of the words, in the table's order: of a command at the place p, in a program that ends at the place end; a and b are what the variables
+-- v and w hold, e is the entry at k. A call only moves the execution on here: what else it does is said with the turns.
+abbrev pub effectBy : Op → Command → ℕ → ℤ → ℤ → Entry → ℕ → Effect
+effectBy Set c p a b e end = made (p + 1) (c .n) 0 e
+effectBy Add c p a b e end = made (p + 1) (sum a b) 0 e
+effectBy Sub c p a b e end = made (p + 1) (difference a b) 0 e
+effectBy Mul c p a b e end = made (p + 1) (product a b) 0 e
+effectBy Div c p a b e end = made (p + 1) (quotient a b) 0 e
+effectBy Read c p a b e end = made (p + 1) (numberOf e) 0 e
+effectBy Has c p a b e end = made (p + 1) (presence e) 0 e
+effectBy Put c p a b e end = made (p + 1) a 0 (Number a)
+effectBy Drop c p a b e end = made (p + 1) a 0 Absent
+effectBy IfNeg c p a b e end = made (cond (ltZ a (pos 0)) (c .t) (p + 1)) a 0 e
+effectBy IfZero c p a b e end = made (cond (isZero a) (c .t) (p + 1)) a 0 e
+effectBy Jump c p a b e end = made (c .t) a 0 e
+effectBy Receive c p a b e end = made (p + 1) a 1 e
+effectBy Send c p a b e end = made (p + 1) a 1 e
+effectBy Stop c p a b e end = made end a 0 e
 
-abbrev pub enters : Entry → Execution → Stepped
-enters e x = record { execution = record { place = x .place + 1; vars = x .vars; calls = x .calls }; entry = e }
+abbrev pub effectOf : Command → ℕ → ℤ → ℤ → Entry → ℕ → Effect
+effectOf c p a b e end = effectBy (c .op) c p a b e end
 
-abbrev pub calling : Execution → Entry → Stepped
-calling x e = record { execution = calledOf x; entry = e }
+-- an effect in the record, and beside it
+abbrev pub steppedBy : Execution → ℕ → Effect → Stepped
+steppedBy x v f = record { execution = afterOf x v (f .value) (f .place) (x .calls + f .calls); entry = f .entry }
 
--- A command by its word, in a program of n commands; a and b are what the variables v and w hold, e the entry at k. A call only moves the
--- execution on here: what else it does is said with the turns.
-abbrev pub doesBy : Op → ℕ → Command → ℤ → ℤ → Execution → Entry → Stepped
-doesBy Set n c a b x e = assigns (c .v) (c .n) x e
-doesBy Add n c a b x e = assigns (c .v) (sum a b) x e
-doesBy Sub n c a b x e = assigns (c .v) (difference a b) x e
-doesBy Mul n c a b x e = assigns (c .v) (product a b) x e
-doesBy Div n c a b x e = assigns (c .v) (quotient a b) x e
-doesBy Read n c a b x e = assigns (c .v) (numberOf e) x e
-doesBy Has n c a b x e = assigns (c .v) (presence e) x e
-doesBy Put n c a b x e = enters (Number a) x
-doesBy Drop n c a b x e = enters Absent x
-doesBy IfNeg n c a b x e = goes (cond (ltZ a (pos 0)) (c .t) (x .place + 1)) x e
-doesBy IfZero n c a b x e = goes (cond (isZero a) (c .t) (x .place + 1)) x e
-doesBy Jump n c a b x e = goes (c .t) x e
-doesBy Receive n c a b x e = calling x e
-doesBy Send n c a b x e = calling x e
-doesBy Stop n c a b x e = goes n x e
-
--- "Each command is one step."
+-- "Each command is one step.": in a program of n commands
 unfoldable pub does : ℕ → Command → Execution → Entry → Stepped
-does n c x e = doesBy (c .op) n c (variable x (c .v)) (variable x (c .w)) x e
+does n c x e = steppedBy x (c .v) (effectOf c (x .place) (variable x (c .v)) (variable x (c .w)) e n)
 
 -- "`receive`, `send`: the two calls"
 unfoldable pub callOf : Op → Call

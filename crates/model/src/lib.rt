@@ -153,6 +153,14 @@ impl Execution {
     }
 }
 
+// What a command does: the next place, the value for its variable, the calls that it makes, and the entry for its key.
+pub struct Effect {
+    pub place: usize,
+    pub value: i32,
+    pub calls: usize,
+    pub entry: Entry,
+}
+
 // What a command leaves: the next record of its execution, and the entry at its key.
 pub struct Stepped {
     pub execution: Execution,

@@ -8,14 +8,14 @@ use borrow.Author.Tests.{ne-eqb, le-ltb, lt-ltb}
 use Rattle.model.specs.{Limits.variables, Parsed.Parsed, Parsed.got, Parsed.refused, Parsed._>>=_, Text.find, Text.space, Text.split, Number.upTo, Number.number}
 use Rattle.model.specs.{Command.Row, Command.Limits, Command.table, Command.blank, Command.operand, Command.operands, Command.byRow, Command.rowOf, Command.words}
 use Rattle.model.specs.{Command.readCommand}
-use Rattle.model.specs.declared.{Op.Op, Command.Command, Operand.Operand, Operand.the-variants.InV, Operand.the-variants.InW, Operand.the-variants.InK}
-use Rattle.model.specs.declared.{Operand.the-variants.InT, Operand.the-variants.InN}
+use Rattle.model.specs.declared.{Op.Op, Command.Command, Operand.Operand}
+use Rattle.model.specs.declared.Operand.the-variants.{InV, InW, InK, InT, InN}
 use Rattle.model.proofs.Accepted.{up-to-bound}
 use Rattle.read_text.proofs.{Laws.rest, Lines.split-end, Lines.split-at, Lines.split-first, Lines.split-some}
 use Rattle.read_command.specs.{Code.saidBy, Code.lookup, Command.shapeAs, Command.single, Command.halves, Command.cutAt, Command.oneOf, Command.twoOf}
 use Rattle.read_command.specs.{Command.mapped, Command.commandOf, Command.withNumber}
-use Rattle.read_command.specs.declared.{Shape.Shape, Shape.the-variants.K, Shape.the-variants.T, Shape.the-variants.VN, Shape.the-variants.VW}
-use Rattle.read_command.specs.declared.{Shape.the-variants.VK, Shape.the-variants.KV, Shape.the-variants.VT}
+use Rattle.read_command.specs.declared.Shape.{Shape}
+use Rattle.read_command.specs.declared.Shape.the-variants.{K, T, VN, VW, VK, KV, VT}
 
 -- what an answer r stands for, z, where the answer is found to be a
 pub answered : {A B : Type 0} (f : A → B) {r a : A} {z : B} → f r ≡ z → r ≡ a → z ≡ f a

@@ -4,12 +4,13 @@ use mathlib.Core.List.{List, [], _∷_}
 use Prim.Native.Nat.{ℕ, _+_, _≤_}
 use lib.{Dec.ltb, IntN.ℤ, ListN.length, ListN.take, ListN.drop}
 use Rattle.model.specs.Parsed.{Parsed, got, refused, _>>=_}
-use Rattle.model.specs.declared.{Op.Op, Command.Command, Operand.Operand, Operand.the-variants.InV, Operand.the-variants.InW, Operand.the-variants.InK}
-use Rattle.model.specs.declared.{Operand.the-variants.InT, Operand.the-variants.InN}
-use Rattle.read_command.specs.declared.{Line.Line, Line.the-variants.Got, Line.the-variants.Refused, Shape.Shape, Shape.the-variants.K, Shape.the-variants.T}
-use Rattle.read_command.specs.declared.{Shape.the-variants.VN, Shape.the-variants.VW, Shape.the-variants.VK, Shape.the-variants.KV, Shape.the-variants.VT}
-use Rattle.read_command.specs.declared.{CommandWord.CommandWord, CommandWord.the-variants.Alone, CommandWord.the-variants.Followed}
-use Rattle.read_command.specs.declared.{CommandWord.the-variants.Unknown, Two.Two, Two.the-variants.Got as TwoGot, Two.the-variants.Refused as TwoRefused}
+use Rattle.model.specs.declared.{Op.Op, Command.Command, Operand.Operand}
+use Rattle.model.specs.declared.Operand.the-variants.{InV, InW, InK, InT, InN}
+use Rattle.read_command.specs.declared.{Line.Line, Shape.Shape, CommandWord.CommandWord, Two.Two}
+use Rattle.read_command.specs.declared.Line.the-variants.{Got, Refused}
+use Rattle.read_command.specs.declared.Shape.the-variants.{K, T, VN, VW, VK, KV, VT}
+use Rattle.read_command.specs.declared.CommandWord.the-variants.{Alone, Followed, Unknown}
+use Rattle.read_command.specs.declared.Two.the-variants.{Got as TwoGot, Refused as TwoRefused}
 
 -- ---- The whole line
 

@@ -11,7 +11,9 @@ use Rattle.model.specs.Phase as Model
 use Rattle.read_text.specs.Text.{starts, Word}
 use Rattle.read_text.proofs.Lines.{more-full, more-bad, more-ok, lines-none, lines-more, line-none, line-first, starts-take, after-named, after-other}
 use Rattle.read_line.specs.Phase.{beside, headed, foundAs, Placed, FirstLine, Reads}
-use Rattle.read_line.specs.declared.{Found.Found, Found.the-variants.At, Found.the-variants.Other, Phase.the-variants.Got, Phase.the-variants.Refused}
+use Rattle.read_line.specs.declared.Found.{Found}
+use Rattle.read_line.specs.declared.Found.the-variants.{At, Other}
+use Rattle.read_line.specs.declared.Phase.the-variants.{Got, Refused}
 
 -- ---- The first line of the text t: where it starts with the name, u is what follows, and e the place of its first line feed
 

@@ -6,8 +6,10 @@ use lib.ListN.{length, take, drop}
 use Rattle.model.specs.{Parsed.Parsed, Parsed.got, Parsed.refused, Parsed._>>=_, Text.lines}
 use Rattle.model.specs.Phase as Model
 use Rattle.read_text.specs.Text.{Word}
-use Rattle.read_line.specs.declared.{Found.Found, Found.the-variants.At, Found.the-variants.Other, Checked.Checked, Checked.the-variants.Got as LineGot}
-use Rattle.read_line.specs.declared.{Checked.the-variants.Refused as LineRefused, Phase.Phase, Phase.the-variants.Got, Phase.the-variants.Refused}
+use Rattle.read_line.specs.declared.{Found.Found, Checked.Checked, Phase.Phase}
+use Rattle.read_line.specs.declared.Found.the-variants.{At, Other}
+use Rattle.read_line.specs.declared.Checked.the-variants.{Got as LineGot, Refused as LineRefused}
+use Rattle.read_line.specs.declared.Phase.the-variants.{Got, Refused}
 
 abbrev pub beside : List (List ℕ) → List ℕ → Parsed (List ℕ × List (List ℕ))
 beside ls v = got (v, ls)

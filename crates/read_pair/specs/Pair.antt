@@ -3,7 +3,8 @@ use Prim.Native.Nat.{ℕ}
 use mathlib.Core.List.{List}
 use lib.IntN.{ℤ}
 use Rattle.model.specs.{Parsed.Parsed, Parsed.got, Parsed.refused, Pair.ByKey, Stored.firstOf}
-use Rattle.read_pair.specs.declared.{Pair.Pair, Pair.the-variants.Got, Pair.the-variants.Refused}
+use Rattle.read_pair.specs.declared.Pair.{Pair}
+use Rattle.read_pair.specs.declared.Pair.the-variants.{Got, Refused}
 
 abbrev pub pairAs : Pair → Parsed (ℕ × ℤ)
 pairAs (Got k v) = got (k, v)

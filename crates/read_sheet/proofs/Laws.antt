@@ -13,12 +13,14 @@ use Rattle.model.specs.Phase as Model
 use Rattle.model.specs.declared.{Entry.Entry, Key.Key, Command.Command, Level.Level}
 use Rattle.read_text.specs.Text.{free, Word}
 use Rattle.read_line.specs.Phase.{Reads, Ahead, phaseAs}
-use Rattle.read_line.specs.declared.{Phase.Phase, Phase.the-variants.Got, Phase.the-variants.Refused}
+use Rattle.read_line.specs.declared.Phase.{Phase}
+use Rattle.read_line.specs.declared.Phase.the-variants.{Got, Refused}
 use Rattle.read_head.specs.Head.{NumberRead}
 use Rattle.read_head.specs.declared.NumberLine.{NumberLine}
 use Rattle.read_program.specs.Program.{FirstFar}
 use Rattle.read_sheet.specs.Sheet.{Answers}
-use Rattle.read_sheet.specs.declared.{Read.Read, Status.Status, Status.the-variants.Got as StatusGot, Status.the-variants.Refused as StatusRefused}
+use Rattle.read_sheet.specs.declared.{Read.Read, Status.Status}
+use Rattle.read_sheet.specs.declared.Status.the-variants.{Got as StatusGot, Refused as StatusRefused}
 
 sheet-word : Word (bytes "sheet") (115 ∷ 104 ∷ 101 ∷ 101 ∷ 116 ∷ 61 ∷ [])
 unfolding bytes free

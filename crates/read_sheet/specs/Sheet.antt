@@ -2,7 +2,8 @@
 use mathlib.Core.Path.{_≡_}
 use Prim.Native.Nat.{ℕ}
 use Rattle.model.specs.{Job.Job, Stored.Stored, Stored.jobOf, Stored.nothingStored, Sheet.Reading, Sheet.accepted, Sheet.refused}
-use Rattle.read_sheet.specs.declared.{Status.Status, Status.the-variants.Got, Status.the-variants.Refused, Read.Read}
+use Rattle.read_sheet.specs.declared.{Status.Status, Read.Read}
+use Rattle.read_sheet.specs.declared.Status.the-variants.{Got, Refused}
 
 abbrev pub statusAs : Status → Job → Reading
 statusAs Got j = accepted j

@@ -5,8 +5,9 @@ use mathlib.Core.List.{List, [], _∷_, _++_}
 use Prim.Native.Nat.{ℕ, suc}
 use lib.{Dec.eqb, IntN.ℤ}
 use Rattle.model.specs.{Parsed.Parsed, Parsed.got, Parsed.refused, Text.classOf, Text.forbiddenClass, Text.lineFeed, Text.equalsSign}
-use Rattle.read_text.specs.declared.{Natural.Natural, Natural.the-variants.Got, Natural.the-variants.Refused, Whole.Whole, Whole.the-variants.Got as WholeGot}
-use Rattle.read_text.specs.declared.{Whole.the-variants.Refused as WholeRefused}
+use Rattle.read_text.specs.declared.{Natural.Natural, Whole.Whole}
+use Rattle.read_text.specs.declared.Natural.the-variants.{Got, Refused}
+use Rattle.read_text.specs.declared.Whole.the-variants.{Got as WholeGot, Refused as WholeRefused}
 
 abbrev pub naturalAs : Natural → Parsed ℕ
 naturalAs (Got n) = got n

@@ -7,20 +7,20 @@ use native.Mathlib.{Numerals.add-one, Nat.add-zero, Omega.arith, Decide.decLt}
 use lib.{Dec.ltb, Dec.leb, Dec.eqb, ListN.length, ListN.getD, ListN.drop, ListN.set, ListN.replicate, ListN.length-map, ListN.drop-of-length-le, ListN.List·getD-map}
 use lib.{ListN.List·getD-eq-default, Seq.drop-cons, Seq.set-getD}
 use borrow.Author.Tests.{lt-ltb, le-ltb, lt-leb, le-leb, eq-eqb, ne-eqb}
-use Rattle.model.specs.{Command.blank, Job.Job, Step.begun, Step.calledOf, Step.calling, Step.variable, Step.doesBy, Step.does, Step.callOf, Stored.levelOf}
+use Rattle.model.specs.{Command.blank, Job.Job, Step.begun, Step.calledOf, Step.variable, Step.does, Step.callOf, Stored.levelOf}
 use Rattle.model.specs.{State.Process, State.Processes, State.Sent, State.Common, State.State, State.entry, State.refill, State.stored, State.step, State.command}
 use Rattle.model.specs.{State.stopped, State.put, State.each, State.process, State.fieldsOf, State.withProcess, Message.received, Message.takes, Message.receive}
 use Rattle.model.specs.{Message.columns, Message.send, Run.share, Run.lead, Run.followed, Run.follow, Run.counted, Run.turn, Run.ended, Run.run, Run.fresh, Run.initial}
 use Rattle.model.specs.{Run.runJob, Turns.letterL, Line.lineLength, Verdict.written, Verdict.short, Verdict.allUsed, Verdict.noRoom, Verdict.verdictBy, Verdict.verdict}
 use Rattle.model.specs.{Verdict.idles}
 use Rattle.model.specs.State as State
-use Rattle.model.specs.declared.{Entry.Entry, Entry.the-variants.Absent, Key.Key, Op.Op, Op.the-variants.Set, Op.the-variants.Add, Op.the-variants.Sub}
-use Rattle.model.specs.declared.{Op.the-variants.Mul, Op.the-variants.Div, Op.the-variants.Read, Op.the-variants.Has, Op.the-variants.Put, Op.the-variants.Drop}
-use Rattle.model.specs.declared.{Op.the-variants.IfNeg, Op.the-variants.IfZero, Op.the-variants.Jump, Op.the-variants.Receive, Op.the-variants.Send, Op.the-variants.Stop}
-use Rattle.model.specs.declared.{Command.Command, Call.Call, Call.the-variants.Neither, Call.the-variants.Receives, Call.the-variants.Sends, Level.Level}
-use Rattle.model.specs.declared.{Level.the-variants.Low, Level.the-variants.High, Execution.Execution, Stepped.Stepped, Ending.Ending, Verdict.the-variants.GoesOn}
-use Rattle.model.specs.declared.{Verdict.the-variants.Ends}
-use Rattle.run_step.proofs.Laws.{effect-calls, effect-does}
+use Rattle.model.specs.declared.{Entry.Entry, Entry.the-variants.Absent, Key.Key, Command.Command, Call.Call, Level.Level, Execution.Execution, Stepped.Stepped}
+use Rattle.model.specs.declared.{Ending.Ending}
+use Rattle.model.specs.declared.Op.the-variants.{Set}
+use Rattle.model.specs.declared.Call.the-variants.{Neither, Receives, Sends}
+use Rattle.model.specs.declared.Level.the-variants.{Low, High}
+use Rattle.model.specs.declared.Verdict.the-variants.{GoesOn, Ends}
+use Rattle.run_step.proofs.Laws.{effect-calls, call-does}
 use Rattle.run_verdict.specs.Verdict.{lacksRoom}
 
 -- a state of the model, from its parts
@@ -37,32 +37,12 @@ commandAt cs p = getD cs p (blank Set)
 
 -- ---- Calls
 
--- a call only moves the execution on
-call-does : (o : Op) (n : ℕ) (c : Command) (x : Execution) (e : Entry) → (callOf o ≡ Neither → ⊥)
-    → doesBy o n c (variable x (c .v)) (variable x (c .w)) x e ≡ calling x e
-unfolding callOf
-call-does Set n c x e h = absurd (h refl)
-call-does Add n c x e h = absurd (h refl)
-call-does Sub n c x e h = absurd (h refl)
-call-does Mul n c x e h = absurd (h refl)
-call-does Div n c x e h = absurd (h refl)
-call-does Read n c x e h = absurd (h refl)
-call-does Has n c x e h = absurd (h refl)
-call-does Put n c x e h = absurd (h refl)
-call-does Drop n c x e h = absurd (h refl)
-call-does IfNeg n c x e h = absurd (h refl)
-call-does IfZero n c x e h = absurd (h refl)
-call-does Jump n c x e h = absurd (h refl)
-call-does Receive n c x e h = refl
-call-does Send n c x e h = refl
-call-does Stop n c x e h = absurd (h refl)
-
--- and leaves its fields as they are
+-- a call only moves the execution on, and leaves its fields as they are
 call-step : (n : ℕ) (c : Command) (x : Execution) (L : List Entry) → (callOf (c .op) ≡ Neither → ⊥)
     → step n c (record { execution = x; fields = L }) ≡ record { execution = calledOf x; fields = L }
-unfolding step does entry
+unfolding step entry
 call-step n c x L h =
-    ap (stored (record { execution = x; fields = L }) (c .k)) (call-does (c .op) n c x (getD L (c .k) Absent) h)
+    ap (stored (record { execution = x; fields = L }) (c .k)) (call-does c x (getD L (c .k) Absent) n h)
     ∙ ap (λ (l : List Entry). record { execution = calledOf x; fields = l }) (set-getD L (c .k) Absent)
 
 -- what is a call is not neither
@@ -76,8 +56,9 @@ a-call e call f = true≢false (ap isNeither (sym f ∙ e) ∙ call)
 
 -- a command makes at most one call
 calls-after : (n : ℕ) (c : Command) (x : Execution) (e : Entry) (r : Stepped) → r ≡ does n c x e → r .execution .calls ≤ x .calls + 1
+unfolding does
 calls-after n c x e r is =
-    subst (λ (z : Stepped). z .execution .calls ≤ x .calls + 1) (effect-does c x e n ∙ sym is)
+    subst (λ (z : Stepped). z .execution .calls ≤ x .calls + 1) (sym is)
     (omega (arith, effect-calls (c .op) c (x .place) (variable x (c .v)) (variable x (c .w)) e n))
 
 -- ---- The loop

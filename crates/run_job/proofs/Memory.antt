@@ -8,8 +8,8 @@ use Rattle.model.specs.{Job.Job, State.Sent, State.State, State.fieldsOf, Run.O
 use Rattle.model.specs.{Line.lineBytes, Line.bytesOf, Line.memoryAfter, Answer.left, Answer.leftBy}
 use Rattle.model.specs.State as State
 use Rattle.model.proofs.Line.{line-length}
-use Rattle.model.specs.declared.{Entry.Entry, Entry.the-variants.Absent, Key.Key, Level.Level, Level.the-variants.Low, Level.the-variants.High, Execution.Execution}
-use Rattle.model.specs.declared.{Ending.Ending, Answer.the-variants.Ended}
+use Rattle.model.specs.declared.{Entry.Entry, Entry.the-variants.Absent, Key.Key, Level.Level, Execution.Execution, Ending.Ending, Answer.the-variants.Ended}
+use Rattle.model.specs.declared.Level.the-variants.{Low, High}
 use Rattle.run_verdict.specs.Verdict.{countsOf}
 use Rattle.write_line.specs.{Placed.placed, Line.lineOf}
 use Rattle.write_line.proofs.{Places.placed-nil, Places.placed-append, Laws.columns-length}

@@ -10,10 +10,11 @@ use Rattle.model.specs.{Job.Job, Limits.mostLetters, Step.begun, Step.calledOf,
 use Rattle.model.specs.{Stored.held, Stored.absentField, Accepted.Within, State.State, Message.fill, Message.received, Turns.letterL, Line.lineLength, Line.lineBytes}
 use Rattle.model.specs.{Verdict.short, Verdict.verdictBy, Verdict.verdict, Verdict.idles, Run.runJob, Answer.left, Answer.leftBy}
 use Rattle.model.specs.State as State
-use Rattle.model.specs.declared.{Entry.the-variants.Absent, Field.Field, Command.Command, Call.Call, Call.the-variants.Neither, Call.the-variants.Receives}
-use Rattle.model.specs.declared.{Call.the-variants.Sends, Level.Level, Level.the-variants.Low, Level.the-variants.High, Execution.Execution, Stepped.Stepped}
-use Rattle.model.specs.declared.{Ending.Ending, Verdict.Verdict, Verdict.the-variants.GoesOn, Verdict.the-variants.Ends, Answer.Answer, Answer.the-variants.Ended}
-use Rattle.model.specs.declared.{KeySlot.KeySlot, MessageLine.MessageLine}
+use Rattle.model.specs.declared.{Entry.the-variants.Absent, Field.Field, Command.Command, Call.Call, Level.Level, Execution.Execution, Stepped.Stepped, Ending.Ending}
+use Rattle.model.specs.declared.{Verdict.Verdict, Answer.Answer, Answer.the-variants.Ended, KeySlot.KeySlot, MessageLine.MessageLine}
+use Rattle.model.specs.declared.Call.the-variants.{Neither, Receives, Sends}
+use Rattle.model.specs.declared.Level.the-variants.{Low, High}
+use Rattle.model.specs.declared.Verdict.the-variants.{GoesOn, Ends}
 use Rattle.write_line.specs.{Placed.placed, Line.columnsIn, Line.lineOf}
 use Rattle.write_line.proofs.Laws.{held-at}
 use Rattle.run_message.specs.Message.{Cleared, Received, withLow, withHigh}

@@ -8,8 +8,10 @@ use Rattle.model.specs.{Stored.keyCapacity, Stored.firstOf, Stored.keyIn, Store
 use Rattle.model.specs.{Stored.absentField, Message.shown, Message.fill}
 use Rattle.run_message.specs.Message.{fieldOf, Cleared}
 use Rattle.model.proofs.Stored.{map-set, first-set, first-same, first-at, first-count}
-use Rattle.model.specs.declared.{Entry.Entry, Entry.the-variants.Absent, Entry.the-variants.Number, Field.Field, Key.Key, Key.the-variants.Open, Key.the-variants.Secret}
-use Rattle.model.specs.declared.{Level.Level, Level.the-variants.Low, Level.the-variants.High, KeySlot.KeySlot, EntrySlot.EntrySlot}
+use Rattle.model.specs.declared.{Entry.Entry, Field.Field, Key.Key, Level.Level, KeySlot.KeySlot, EntrySlot.EntrySlot}
+use Rattle.model.specs.declared.Entry.the-variants.{Absent, Number}
+use Rattle.model.specs.declared.Key.the-variants.{Open, Secret}
+use Rattle.model.specs.declared.Level.the-variants.{Low, High}
 
 fill-length : (l : Level) (ks : List Key) (es : List Entry) → length (fill l ks es) ≡ length ks
 unfolding fill

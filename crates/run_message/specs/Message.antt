@@ -5,7 +5,8 @@ use mathlib.Core.Bool.{Bool, cond}
 use mathlib.Core.List.{List}
 use lib.ListN.{replicate}
 use Rattle.model.specs.{Message.shown, Message.fill, Stored.keyCapacity, Stored.held, Stored.absentField}
-use Rattle.model.specs.declared.{Entry.Entry, Entry.the-variants.Absent, Field.Field, Key.Key, Level.the-variants.Low, Level.the-variants.High}
+use Rattle.model.specs.declared.{Entry.Entry, Entry.the-variants.Absent, Field.Field, Key.Key}
+use Rattle.model.specs.declared.Level.the-variants.{Low, High}
 
 abbrev pub fieldOf : Key → Entry → Field
 fieldOf k e = record { low = shown Low k e; high = shown High k e }

@@ -1,6 +1,7 @@
 // One command of one execution.
 use model::Call;
 use model::Command;
+use model::Effect;
 use model::Entry;
 use model::Execution;
 use model::Op;
@@ -13,16 +14,8 @@ ghost use mathlib.Core.Path.{_≡_};
 ghost use mathlib.Core.Bool.{cond};
 ghost use Prim.Native.Nat.{_+_, _<_};
 ghost use lib.{IntN.pos, Signed.ltZ};
-ghost use Rattle.model.specs.{Arith.isZero, Step.numberOf, Step.presence, Step.does, Step.callOf};
-ghost use Rattle.run_step.specs.Step.{MayStep, made as Effect·made, effectOf};
-
-// What a command does: the next place, the value for its variable, the calls that it makes, and the entry for its key.
-pub struct Effect {
-    pub place: usize,
-    pub value: i32,
-    pub calls: usize,
-    pub entry: Entry,
-}
+ghost use Rattle.model.specs.{Arith.isZero, Step.numberOf, Step.presence, Step.made as Effect·made, Step.effectOf, Step.does, Step.callOf};
+ghost use Rattle.run_step.specs.Step.{MayStep};
 
 // A variable's or a key's number, as an index.
 pub fn index(x: u8) -> usize

@@ -6,7 +6,8 @@ use lib.ListN.{length}
 use Rattle.model.specs.{Answer.leftBy, Answer.runSheet, Job.Job, Stored.jobOf, Sheet.Reading, Sheet.accepted, Sheet.refused, Sheet.readSheet, Run.runJob}
 use Rattle.model.specs.declared.Answer.the-variants.{Refused}
 use Rattle.read_sheet.specs.Sheet.{statusAs, Answers}
-use Rattle.read_sheet.specs.declared.{Read.Read, Status.Status, Status.the-variants.Got, Status.the-variants.Refused as StatusRefused}
+use Rattle.read_sheet.specs.declared.{Read.Read, Status.Status}
+use Rattle.read_sheet.specs.declared.Status.the-variants.{Got, Refused as StatusRefused}
 
 pub accepted-left : (s o : List ℕ) (j : Job) → readSheet s ≡ accepted j → runSheet s o ≡ leftBy o (runJob j (length o))
 unfolding runSheet

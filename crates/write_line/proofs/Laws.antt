@@ -6,8 +6,8 @@ use native.Mathlib.{Omega.arith, Nat.le-of-suc-le-suc, Nat.not-suc-le-zero, Nat.
 use lib.{ListN.length, ListN.getD, ListN.drop, ListN.set, ListN.replicate, ListN.length-append, ListN.length-set, ListN.drop-of-length-le, Seq.drop-cons}
 use Rattle.model.specs.{Text.lineFeed, Text.space, Text.dot, Stored.keyIn, Stored.keysIn, Stored.side, Stored.held, Stored.openSlot, Stored.absentField, Message.source}
 use Rattle.model.specs.{Message.columns, Line.cell, Line.cells, Line.heading, Line.lineBytes}
-use Rattle.model.specs.declared.{Entry.Entry, Entry.the-variants.Absent, Field.Field, Key.Key, Key.the-variants.Open, Level.Level, Level.the-variants.Low}
-use Rattle.model.specs.declared.{Level.the-variants.High, KeySlot.KeySlot}
+use Rattle.model.specs.declared.{Entry.Entry, Entry.the-variants.Absent, Field.Field, Key.Key, Key.the-variants.Open, Level.Level, KeySlot.KeySlot}
+use Rattle.model.specs.declared.Level.the-variants.{Low, High}
 use Rattle.model.proofs.{Line.cell-length, Line.cells-length, Line.heading-length, Stored.first-at, Stored.first-count}
 use Rattle.write_line.specs.{Placed.placed, Line.columnsIn, Line.lineOf}
 use Rattle.write_line.proofs.Places.{placed-append, placed-nil, placed-cons, placed-next, placed-length}

@@ -5,7 +5,8 @@ use native.Mathlib.Omega.{arith}
 use borrow.Author.Needs.{needs}
 use lib.ListN.{length, take, length-set}
 use Rattle.model.specs.{Stored.keyCapacity, Stored.firstOf, Stored.entryIn, Stored.keysIn, Stored.side, Message.fill}
-use Rattle.model.specs.declared.{Level.Level, Level.the-variants.Low, Level.the-variants.High}
+use Rattle.model.specs.declared.Level.{Level}
+use Rattle.model.specs.declared.Level.the-variants.{Low, High}
 use Rattle.run_message.proofs.Laws.{filled-more, filled-all}
 use Rattle.run_message.proofs.fill.Statement.{statement}
 use Rattle.run_message.proofs.fill.Tie as tie

@@ -5,10 +5,9 @@ use native.Mathlib.Omega.{arith}
 use borrow.Author.Needs.{needs, sfits-of}
 use lib.IntN.{ℤ}
 use mir.{Syntax.w32, ValLaws.toZ-ofZ}
-use Rattle.model.specs.Step.{variable, afterOf}
-use Rattle.run_step.specs.Step.{effectOf}
-use Rattle.run_step.specs.declared.Effect.{Effect}
-use Rattle.run_step.proofs.Laws.{effect-calls, steppedBy, effect-does}
+use Rattle.model.specs.Step.{variable, afterOf, effectOf, steppedBy, does}
+use Rattle.model.specs.declared.Effect.{Effect}
+use Rattle.run_step.proofs.Laws.{effect-calls}
 use Rattle.run_step.proofs.step.Statement.{statement}
 use Rattle.run_step.proofs.step.Tie as tie
 
@@ -40,6 +39,7 @@ add-after c =
     omega (arith, ap (λ (g : Effect). g .calls) (effect-is (c .before)), once)
 
 returns : tie.Need-returns
+unfolding does
 returns c =
     let f = c .before .before .before in
     let a = start f .args in
@@ -50,7 +50,6 @@ returns c =
     let next = c .after .ensures ∙ ap (λ (z : ℤ). afterOf x (v .result) z (r .place) (x .calls + r .calls)) value in
     (λ i. record { execution = next i; entry = r .entry })
     ∙ ap₂ (λ (n : ℕ) (g : Effect). steppedBy x n g) (v .ensures) (effect-is f)
-    ∙ effect-does (a .c) x (a .e) (a .end)
 
 pub step-spec : {M : Type 1} → statement M
 step-spec =
