@@ -13,7 +13,9 @@ fn main() {
     let mut sheet = [0u8; READ_BYTES];
     let mut output = [0u8; LENT_BYTES];
     match terminal::read_all(STDIN_FILENO, &mut sheet) {
-        Input::Got(n) => show::run_and_print(&sheet[..n], &mut output),
+        Input::Got(n) => {
+            show::run_and_print(&sheet[..n], &mut output);
+        }
         Input::Failed => {
             io::write_all(
                 STDERR_FILENO,
