@@ -1,7 +1,7 @@
 // The plain data of the confidential run. What it means is in specs/.
 //
 // The code takes every limit and every array's length from the constants here. The definitions have the same numbers in specs/Limits.antt and
-// specs/Stored.antt; where the two differ, the contracts below are not met.
+// specs/Stored.antt; where the two differ, a contract is not met.
 ghost use mathlib.Core.Path.{_≡_};
 ghost use Prim.Native.Nat.{_<_};
 ghost use lib.ListN.{replicate};

@@ -10,7 +10,7 @@ use Rattle.model.specs.{Phase.many, Phase.oneMore, Phase.numbered, Phase.onward
 use Rattle.model.specs.Phase as Model
 use Rattle.read_text.specs.Text.{starts, Word}
 use Rattle.read_text.proofs.Lines.{more-full, more-bad, more-ok, lines-none, lines-more, line-none, line-first, starts-take, after-named, after-other}
-use Rattle.read_line.specs.Phase.{beside, headed, foundAs, Placed, FirstLine, Reads}
+use Rattle.read_line.specs.Phase.{beside, headed, foundAs, FeedInside, FirstLine, Reads}
 use Rattle.read_line.specs.declared.Found.{Found}
 use Rattle.read_line.specs.declared.Found.the-variants.{At, Other}
 use Rattle.read_line.specs.declared.Phase.the-variants.{Got, Refused}
@@ -89,8 +89,8 @@ module _ {A : Type 0} (w : List ℕ) (n : ℕ) where
       go (refused r) e = never (sym e)
 
 -- where a line of the name ends
-pub placed : {p t : List ℕ} {r : Found} {v e : ℕ} → FirstLine p t r → r ≡ At v e → (v ≤ e) × (e < length t)
-placed {p} {t} l q = subst (Placed t) q (l .place)
+pub feed-inside : {p t : List ℕ} {r : Found} {v e : ℕ} → FirstLine p t r → r ≡ At v e → (v ≤ e) × (e < length t)
+feed-inside {p} {t} l q = subst (FeedInside t) q (l .feed)
 
 -- ---- A phase of one line, by the first line of s
 
@@ -109,7 +109,7 @@ module _ {w p s : List ℕ} {r : Found} (W : Word w p) (l : FirstLine p s r) whe
     one-bad q b = record { read = sym (one-line w first f (lines s) _ _ (named q) ∙ rw b); ahead = tt }
 
     pub one-ok : {a : A} {v e : ℕ} → r ≡ At v e → f (take (e - v) (drop v s)) ≡ got a → Reads (one w f) s first (Got (first + 1) (e + 1)) a
-    one-ok q b = let h = placed l q in record { read = sym (one-line w first f (lines s) _ _ (named q) ∙ rw b); ahead = (omega arith, omega arith) }
+    one-ok q b = let h = feed-inside l q in record { read = sym (one-line w first f (lines s) _ _ (named q) ∙ rw b); ahead = (omega arith, omega arith) }
 
 -- ---- A phase of many lines, by a loop over s: the lines before a gave x, and those from a on, of which the first has the number line, are left
 
@@ -136,7 +136,7 @@ module _ {A : Type 0} {w : List ℕ} {F : A → List ℕ → Parsed A} {start : 
       -- the next line starts within s
       pub going-bound : a + e + 1 ≤ length s
       going-bound =
-          let h = placed l q in
+          let h = feed-inside l q in
           let n : length t ≡ length s - a = rw d (length-drop a s) in
           omega (arith, g .place)
 

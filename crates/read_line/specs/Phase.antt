@@ -25,13 +25,13 @@ foundAs t (At v e) = got (take (e - v) (drop v t), lines (drop (e + 1) t))
 foundAs t Other = refused 3
 
 -- the line feed stands after the name and within the text
-abbrev pub Placed : List ℕ → Found → Type 0
-Placed t (At v e) = (v ≤ e) × (e < length t)
-Placed t Other = Unit {0}
+abbrev pub FeedInside : List ℕ → Found → Type 0
+FeedInside t (At v e) = (v ≤ e) × (e < length t)
+FeedInside t Other = Unit {0}
 
 pub record FirstLine (p t : List ℕ) (r : Found) : Type 0 where
   pub line : (w : List ℕ) → Word w p → foundAs t r ≡ headed w (lines t)
-  pub place : Placed t r
+  pub feed : FeedInside t r
 
 -- what was read, where a line was read
 abbrev pub checkedAs : {A : Type 0} → Checked → A → Parsed A

@@ -4,7 +4,7 @@ use native.Mathlib.Omega.{arith}
 use borrow.Author.Needs.{needs}
 use Rattle.model.proofs.Accepted.{from-one-bound}
 use Rattle.read_text.specs.Text.{naturalAs}
-use Rattle.read_line.proofs.Laws.{placed, one-other, one-bad, one-ok}
+use Rattle.read_line.proofs.Laws.{feed-inside, one-other, one-bad, one-ok}
 use Rattle.read_head.proofs.number_line.Statement.{statement}
 use Rattle.read_head.proofs.number_line.Tie as tie
 
@@ -35,12 +35,12 @@ number-line-spec =
     tie.close
     (tie.spec
     (λ c κs. search needs) (λ c. search needs) (λ c. search needs)
-    (λ c. let h = placed (lineOf (c .before) .first-line .ensures) (c .before .v .given .1) in omega arith)
-    (λ c. let h = placed (lineOf (c .before) .first-line .ensures) (c .before .v .given .1) in omega arith)
-    (λ c. let h = placed (lineOf (c .before) .first-line .ensures) (c .before .v .given .1) in omega arith)
+    (λ c. let h = feed-inside (lineOf (c .before) .first-line .ensures) (c .before .v .given .1) in omega arith)
+    (λ c. let h = feed-inside (lineOf (c .before) .first-line .ensures) (c .before .v .given .1) in omega arith)
+    (λ c. let h = feed-inside (lineOf (c .before) .first-line .ensures) (c .before .v .given .1) in omega arith)
     (λ c κs. search needs) (λ c. search needs) (λ c. search needs)
-    (λ c. let e = hereOf (c .before .before .before) in let h = placed (lineOf e .first-line .ensures) (e .v .given .1) in omega arith)
-    (λ c. let e = hereOf (c .before .before .before) in let h = placed (lineOf e .first-line .ensures) (e .v .given .1) in omega arith)
+    (λ c. let e = hereOf (c .before .before .before) in let h = feed-inside (lineOf e .first-line .ensures) (e .v .given .1) in omega arith)
+    (λ c. let e = hereOf (c .before .before .before) in let h = feed-inside (lineOf e .first-line .ensures) (e .v .given .1) in omega arith)
     (λ c. record { read = λ w W. one-other W (c .before .before .first-line .ensures) _ (c .enum-told .given .1); least = omega arith; most = search needs })
     returns-2
     returns-3)

@@ -8,7 +8,7 @@ use mir.{Syntax.w32, Val.toZ, Val.ofZ, ValLaws.toZ-ofZ}
 use Rattle.model.specs.{Parsed.got, Text.bytes, Pair.pair, Head.secretLine, Head.allOpen, Head.readSecrets, Stored.keyCapacity, Stored.keyIn, Stored.openSlot}
 use Rattle.model.proofs.Accepted.{keys-rise}
 use Rattle.read_text.proofs.Laws.{rest}
-use Rattle.read_line.proofs.Laws.{Going, placed, going-on, going-left, going-bad, going-bound, going-more}
+use Rattle.read_line.proofs.Laws.{Going, feed-inside, going-on, going-left, going-bad, going-bound, going-more}
 use Rattle.read_pair.specs.Pair.{pairAs, byKey}
 use Rattle.read_pair.proofs.Laws.{by-key-blank}
 use Rattle.read_head.proofs.Laws.{secret-word, secret-bad, secret-ok}
@@ -94,9 +94,9 @@ read-secrets-spec =
     (λ c κs. search needs)
     (λ c. going-on _ (rw (c .open-keys .ensures) (by-key-blank keyIn _ keyCapacity openSlot (c .before .before .pre .1))))
     (λ c. omega arith) (λ c. omega arith) (λ c. omega arith) (λ c. search needs) (λ c κs. search needs) (λ c. search needs) (λ c. search needs)
-    (λ c. let h = placed (lineOf (c .before) .first-line .ensures) (c .before .v .given .1) in omega arith)
-    (λ c. let h = placed (lineOf (c .before) .first-line .ensures) (c .before .v .given .1) in omega arith)
-    (λ c. let h = placed (lineOf (c .before) .first-line .ensures) (c .before .v .given .1) in omega arith)
+    (λ c. let h = feed-inside (lineOf (c .before) .first-line .ensures) (c .before .v .given .1) in omega arith)
+    (λ c. let h = feed-inside (lineOf (c .before) .first-line .ensures) (c .before .v .given .1) in omega arith)
+    (λ c. let h = feed-inside (lineOf (c .before) .first-line .ensures) (c .before .v .given .1) in omega arith)
     (λ c κs. search needs) (λ c. search needs) (λ c. search needs)
     (λ c. let b = below c in omega arith)
     (λ c. let b = below c in omega arith)

@@ -9,7 +9,7 @@ use Rattle.model.specs.{Limits.mostMessages, Text.bytes, Phase.oneMore, Message
 use Rattle.read_text.proofs.Laws.{rest}
 use Rattle.read_line.specs.Phase.{checkedAs}
 use Rattle.read_line.specs.declared.Checked.{Checked}
-use Rattle.read_line.proofs.Laws.{Going, placed, going-on, going-left, going-bad, going-bound, going-more, array-full, array-bad, array-ok}
+use Rattle.read_line.proofs.Laws.{Going, feed-inside, going-on, going-left, going-bad, going-bound, going-more, array-full, array-bad, array-ok}
 use Rattle.read_messages.proofs.Laws.{msg-word}
 use Rattle.read_messages.proofs.read_messages.Statement.{statement}
 use Rattle.read_messages.proofs.read_messages.Tie as tie
@@ -92,9 +92,9 @@ read-messages-spec =
     (λ c κs. search needs)
     (λ c. (going-on _ refl, omega arith, rw (c .no-messages .ensures) refl))
     (λ c. omega arith) (λ c. omega arith) (λ c. omega arith) (λ c. search needs) (λ c κs. search needs) (λ c. search needs) (λ c. search needs)
-    (λ c. let h = placed (lineOf (c .before .before) .first-line .ensures) (c .before .before .v .given .1) in omega arith)
-    (λ c. let h = placed (lineOf (c .before .before) .first-line .ensures) (c .before .before .v .given .1) in omega arith)
-    (λ c. let h = placed (lineOf (c .before .before) .first-line .ensures) (c .before .before .v .given .1) in omega arith)
+    (λ c. let h = feed-inside (lineOf (c .before .before) .first-line .ensures) (c .before .before .v .given .1) in omega arith)
+    (λ c. let h = feed-inside (lineOf (c .before .before) .first-line .ensures) (c .before .before .v .given .1) in omega arith)
+    (λ c. let h = feed-inside (lineOf (c .before .before) .first-line .ensures) (c .before .before .v .given .1) in omega arith)
     (λ c κs. search needs) (λ c. search needs) (λ c. search needs) (λ c. omega arith) (λ c. omega arith) (λ c. omega arith)
     (λ c. let b = bound (hereOf (messageOf c)) in omega arith)
     (λ c. let b = bound (hereOf (messageOf c)) in omega arith)

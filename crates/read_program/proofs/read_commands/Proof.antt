@@ -7,7 +7,7 @@ use borrow.Author.Needs.{needs}
 use lib.ListN.{length, length-set, take, drop}
 use Rattle.model.specs.{Limits.mostCommands, Text.bytes, Command.limits, Command.readCommand, Phase.oneMore, Stored.commandCapacity}
 use Rattle.read_text.proofs.Laws.{rest}
-use Rattle.read_line.proofs.Laws.{Going, placed, going-on, going-left, going-bad, going-bound, going-more, array-full, array-bad, array-ok}
+use Rattle.read_line.proofs.Laws.{Going, feed-inside, going-on, going-left, going-bad, going-bound, going-more, array-full, array-bad, array-ok}
 use Rattle.read_command.specs.Command.{lineAs}
 use Rattle.read_program.proofs.Laws.{do-word, itself, commands-refused, commands-none, commands-some}
 use Rattle.read_program.proofs.read_commands.Statement.{statement}
@@ -95,9 +95,9 @@ read-commands-spec =
     (λ c κs. search needs)
     (λ c. (going-on _ refl, omega arith, rw (c .no-commands .ensures) refl))
     (λ c. omega arith) (λ c. omega arith) (λ c. omega arith) (λ c. search needs) (λ c κs. search needs) (λ c. search needs) (λ c. search needs)
-    (λ c. let h = placed (lineOf (c .before .before) .first-line .ensures) (c .before .before .v .given .1) in omega arith)
-    (λ c. let h = placed (lineOf (c .before .before) .first-line .ensures) (c .before .before .v .given .1) in omega arith)
-    (λ c. let h = placed (lineOf (c .before .before) .first-line .ensures) (c .before .before .v .given .1) in omega arith)
+    (λ c. let h = feed-inside (lineOf (c .before .before) .first-line .ensures) (c .before .before .v .given .1) in omega arith)
+    (λ c. let h = feed-inside (lineOf (c .before .before) .first-line .ensures) (c .before .before .v .given .1) in omega arith)
+    (λ c. let h = feed-inside (lineOf (c .before .before) .first-line .ensures) (c .before .before .v .given .1) in omega arith)
     (λ c κs. search needs) (λ c. search needs) (λ c. search needs) (λ c. omega arith) (λ c. omega arith) (λ c. omega arith)
     (λ c. let b = bound (hereOf (commandOf c)) in omega arith)
     (λ c. let b = bound (hereOf (commandOf c)) in omega arith)

@@ -9,7 +9,7 @@ use Rattle.model.specs.Stored.{levelOf}
 use Rattle.read_text.proofs.Laws.{rest}
 use Rattle.read_line.specs.Phase.{Reads, checkedAs}
 use Rattle.read_line.specs.declared.{Checked.Checked, Phase.the-variants.Got}
-use Rattle.read_line.proofs.Laws.{placed, one-other, one-bad, one-ok}
+use Rattle.read_line.proofs.Laws.{feed-inside, one-other, one-bad, one-ok}
 use Rattle.read_turns.proofs.Laws.{turns-word, theLine, last-refused, last-more, last-none}
 use Rattle.read_turns.proofs.read_turns.Statement.{statement}
 use Rattle.read_turns.proofs.read_turns.Tie as tie
@@ -67,9 +67,9 @@ read-turns-spec =
     tie.close
     (tie.spec
     (λ c. search needs) (λ c κs. search needs) (λ c. search needs) (λ c. search needs)
-    (λ c. let h = placed (lineOf (c .before) .first-line .ensures) (c .before .v .given .1) in omega arith)
-    (λ c. let h = placed (lineOf (c .before) .first-line .ensures) (c .before .v .given .1) in omega arith)
-    (λ c. let h = placed (lineOf (c .before) .first-line .ensures) (c .before .v .given .1) in omega arith)
+    (λ c. let h = feed-inside (lineOf (c .before) .first-line .ensures) (c .before .v .given .1) in omega arith)
+    (λ c. let h = feed-inside (lineOf (c .before) .first-line .ensures) (c .before .v .given .1) in omega arith)
+    (λ c. let h = feed-inside (lineOf (c .before) .first-line .ensures) (c .before .v .given .1) in omega arith)
     (λ c κs. search needs) (λ c. search needs) (λ c. search needs)
     (λ c. let h = read c .ahead in omega arith)
     (λ c. let h = read c .ahead in omega arith)
