@@ -7,7 +7,7 @@ use lib.{Dec.eqb, Dec.leb, Dec.ltb, IntN.ℤ, IntN.pos, IntN.negsuc, ListN.lengt
 use lib.{ListN.length-append}
 use borrow.Author.Tests.{eq-eqb, leb-true, ltb-true, ltb-false}
 use native.Mathlib.Omega.{arith}
-use Rattle.model.specs.{Limits.mostBytes, Limits.mostKeys, Limits.mostCommands, Limits.mostMessages, Limits.mostLetters, Limits.variables, Limits.greatestNumber}
+use Rattle.model.specs.{Limits.mostBytes, Limits.variables, Limits.greatestNumber, Form.formOf}
 use Rattle.model.specs.{Limits.leastNumber, Parsed.Parsed, Parsed.got, Parsed.refused, Parsed.need, Parsed._>>=_, Parsed._>>_, Text.bytes, Text.same, Text.divide}
 use Rattle.model.specs.{Text.split, Text.lines, Text.count, Text.lineFeed, Text.space, Text.comma, Text.minus, Text.colon, Number.natural, Number.within}
 use Rattle.model.specs.{Number.upTo, Number.fromOne, Number.negative, Number.positive, Number.number, Command.Row, Command.Limits, Command.table, Command.blank}
@@ -18,8 +18,8 @@ use Rattle.model.specs.{Turns.letters, Turns.turnsLine, Turns.nothingAft
 use Rattle.model.specs.{Phase.oneMore, Phase.some, Phase.numbered, Phase.onward, Phase.eachLine, Sheet.Reading, Sheet.accepted, Sheet.next, Sheet.targets}
 use Rattle.model.specs.{Sheet.readBody, Sheet.readLines, Sheet.forbiddenLine, Sheet.closed, Sheet.readSheet, Program.readCommands, Accepted.rowFor}
 use Rattle.model.specs.{Accepted.ordinal, Accepted.has, Accepted.kept, Accepted.Bare, Accepted.InRange, Accepted.KeyInRange, Accepted.EntryInRange, Accepted.Within}
-use Rattle.model.specs.{Accepted.Every, Accepted.Full, Accepted.Sound, Accepted.AcceptedSound, Accepted.KeysRise}
-use Rattle.model.specs.Data.{Entry, Absent, Number, Key, Open, Secret, Op, Command, Operand, InV, InW, InK, InT, InN, Level}
+use Rattle.model.specs.{Accepted.Every, Accepted.Full, Accepted.SoundBy, Accepted.Sound, Accepted.AcceptedSound, Accepted.KeysRise}
+use Rattle.model.specs.Data.{Form, Entry, Absent, Number, Key, Open, Secret, Op, Command, Operand, InV, InW, InK, InT, InN, Level}
 use Rattle.model.specs.Phase as Phase
 use Rattle.model.specs.Sheet as Sheet
 
@@ -266,23 +266,24 @@ command-ok l some s = go (split space s)
 
 -- ---- Letters
 
-letters-ok : (s : List ℕ) → GotOf (λ (ls : List Level). length ls ≡ length s) (letters s)
-unfolding letters
-letters-ok [] = refl
-letters-ok (b ∷ bs) =
-    bind Any (λ (ls : List Level). length ls ≡ suc (length bs)) (letter b) _ (any (letter b)) (λ l h.
-    bind (λ (ls : List Level). length ls ≡ length bs) (λ (ls : List Level). length ls ≡ suc (length bs)) (letters bs) _ (letters-ok bs) (λ ls e. ap suc e))
+module _ (f : Form) where
+  letters-ok : (s : List ℕ) → GotOf (λ (ls : List Level). length ls ≡ length s) (letters f s)
+  unfolding letters
+  letters-ok [] = refl
+  letters-ok (b ∷ bs) =
+      bind Any (λ (ls : List Level). length ls ≡ suc (length bs)) (letter f b) _ (any (letter f b)) (λ l h.
+      bind (λ (ls : List Level). length ls ≡ length bs) (λ (ls : List Level). length ls ≡ suc (length bs)) (letters f bs) _ (letters-ok bs) (λ ls e. ap suc e))
 
-abbrev Lettered : List Level → Type 0
-Lettered ls = (1 ≤ length ls) × (length ls ≤ mostLetters)
+  abbrev Lettered : List Level → Type 0
+  Lettered ls = (1 ≤ length ls) × (length ls ≤ f .letters)
 
-turns-ok : (s : List ℕ) → GotOf Lettered (turnsLine s)
-unfolding turnsLine
-turns-ok s =
-    guard Lettered (leb (length s) mostLetters) 8 _ (λ e.
-    guard Lettered (leb 1 (length s)) 9 _ (λ f.
-    imply (λ (ls : List Level). length ls ≡ length s) Lettered (letters s)
-    (λ ls n. (omega (arith, leb-true 1 (length s) f), omega (arith, leb-true (length s) mostLetters e))) (letters-ok s)))
+  turns-ok : (s : List ℕ) → GotOf Lettered (turnsLine f s)
+  unfolding turnsLine
+  turns-ok s =
+      guard Lettered (leb (length s) (f .letters)) 8 _ (λ e.
+      guard Lettered (leb 1 (length s)) 9 _ (λ g.
+      imply (λ (ls : List Level). length ls ≡ length s) Lettered (letters f s)
+      (λ ls n. (omega (arith, leb-true 1 (length s) g), omega (arith, leb-true (length s) (f .letters) e))) (letters-ok s)))
 
 -- ---- Phases
 
@@ -350,79 +351,87 @@ module _ (Q : Job → Type 0) where
       go false e rest = rest (λ far. h (ltb-false m (c .t) e, far))
 
 -- every command's target is within the count, once that is tested
-tightened : (K m : ℕ) (c : Command) → Plain (limits K mostCommands) c → c .t ≤ m → Within K m c
-tightened K m c h b = let w = h .0 in record { v = w .v; w = w .w; k = w .k; t = b; n = w .n }
-
-abbrev Coming : ℕ → List Command → Type 0
-Coming K cs = (1 ≤ length cs) × AtMost (Plain (limits K mostCommands)) mostCommands cs
-
--- what the phases read, put together
-finished : (K : ℕ) (ks : ByKey Key) (cs : List Command) (ms : List (List Entry)) (ts : List Level)
-    → Positive mostKeys K → Held KeyInRange K ks → Coming K cs → AtMost (Full K) mostMessages ms → Lettered ts
-    → Every (λ (c : Command). c .t ≤ length cs) cs
-    → Sound (record { keys = ks .at; commands = cs; messages = ms; turns = ts })
-finished K ks cs ms ts hk held hc hm ht far =
-    let e : K ≡ length (ks .at) = sym (held .0) in
-    record {
-      someKeys = omega (arith, hk .0, held .0);
-      mostKeys = omega (arith, hk .1, held .0);
-      keys = held .1;
-      someCommands = hc .0;
-      mostCommands = hc .1 .0;
-      commands =
-          subst (λ (n : ℕ). Every (Within n (length cs)) cs) e
-          (every-both (Plain (limits K mostCommands)) (λ (c : Command). c .t ≤ length cs) (Within K (length cs)) (λ c h b. tightened K (length cs) c h b) cs (hc .1 .1) far);
-      bare = every-both (Plain (limits K mostCommands)) (λ (c : Command). c .t ≤ length cs) Bare (λ c h b. h .1) cs (hc .1 .1) far;
-      mostMessages = hm .0;
-      messages = subst (λ (n : ℕ). Every (Full n) ms) e (hm .1);
-      someTurns = ht .0;
-      mostTurns = ht .1;
-    }
-
--- ---- The phases
-
-module _ (K : ℕ) (some : 1 ≤ K) (n : ℕ) (ls : List (List ℕ)) where
-  secrets-ok : ReadOf (Held KeyInRange K) (readSecrets K n ls)
-  unfolding readSecrets
-  secrets-ok = many-ok (Held KeyInRange K) (bytes "secret") (secretLine K) n (allOpen K) ls (λ e s h. secret-ok K some e s h) (everywhere-ok KeyInRange K Open tt)
-
-  commands-ok : ReadOf (Coming K) (readCommands K n ls)
-  unfolding readCommands
-  commands-ok =
-      some-ok (Plain (limits K mostCommands)) mostCommands (many (bytes "do") (oneMore mostCommands (readCommand (limits K mostCommands))) n [] ls)
-      (many-ok (AtMost (Plain (limits K mostCommands)) mostCommands) (bytes "do") (oneMore mostCommands (readCommand (limits K mostCommands))) n [] ls
-      (λ cs s h. oneMore-ok (Plain (limits K mostCommands)) mostCommands (readCommand (limits K mostCommands)) cs s (command-ok (limits K mostCommands) some s) h) (zero-le, tt))
-
-  messages-ok : ReadOf (AtMost (Full K) mostMessages) (readMessages K n ls)
-  unfolding readMessages
-  messages-ok =
-      many-ok (AtMost (Full K) mostMessages) (bytes "msg") (oneMore mostMessages (messageLine K)) n [] ls
-      (λ ms s h. oneMore-ok (Full K) mostMessages (messageLine K) ms s (message-line-ok K some s) h) (zero-le, tt)
+tightened : (K l m : ℕ) (c : Command) → Plain (limits K l) c → c .t ≤ m → Within K m c
+tightened K l m c h b = let w = h .0 in record { v = w .v; w = w .w; k = w .k; t = b; n = w .n }
 
 nothing-ok : {A : Type 0} (P : A → Type 0) (x : Phase A) → ReadOf P x → ReadOf P (nothingAfter x)
 nothing-ok P (Phase.got a n []) h = h
 nothing-ok P (Phase.got a n (l ∷ ls)) h = tt
 nothing-ok P (Phase.refused r n) h = tt
 
-letters-read-ok : (n : ℕ) (ls : List (List ℕ)) → ReadOf Lettered (readTurns n ls)
-unfolding readTurns
-letters-read-ok n ls = nothing-ok Lettered (one (bytes "turns") turnsLine n ls) (one-ok Lettered (bytes "turns") turnsLine n ls turns-ok)
+secrets-ok : (K : ℕ) → 1 ≤ K → (n : ℕ) (ls : List (List ℕ)) → ReadOf (Held KeyInRange K) (readSecrets K n ls)
+unfolding readSecrets
+secrets-ok K some n ls = many-ok (Held KeyInRange K) (bytes "secret") (secretLine K) n (allOpen K) ls (λ e s h. secret-ok K some e s h) (everywhere-ok KeyInRange K Open tt)
 
-body-ok : (K : ℕ) (ks : ByKey Key) (top : ℕ) (ls : List (List ℕ)) → Positive mostKeys K → Held KeyInRange K ks → AcceptedOf Sound (readBody (ks .at) K top ls)
-unfolding readBody
-body-ok K ks top ls hk held =
-    next-ok Sound (Coming K) (readCommands K top ls) _ (commands-ok K (hk .0) top ls) (λ cs n₁ ls₁ hc.
-    next-ok Sound (AtMost (Full K) mostMessages) (readMessages K n₁ ls₁) _ (messages-ok K (hk .0) n₁ ls₁) (λ ms n₂ ls₂ hm.
-    next-ok Sound Lettered (readTurns n₂ ls₂) _ (letters-read-ok n₂ ls₂) (λ ts n₃ ls₃ ht.
-    targets-ok Sound top (length cs) cs _ (finished K ks cs ms ts hk held hc hm ht))))
+-- ---- The phases of a sheet of the form f
 
+module _ (f : Form) where
+  abbrev Coming : ℕ → List Command → Type 0
+  Coming K cs = (1 ≤ length cs) × AtMost (Plain (limits K (f .commands))) (f .commands) cs
+
+  -- what the phases read, put together
+  finished : (K : ℕ) (ks : ByKey Key) (cs : List Command) (ms : List (List Entry)) (ts : List Level)
+      → Positive (f .keys) K → Held KeyInRange K ks → Coming K cs → AtMost (Full K) (f .messages) ms → Lettered f ts
+      → Every (λ (c : Command). c .t ≤ length cs) cs
+      → SoundBy f (record { keys = ks .at; commands = cs; messages = ms; turns = ts })
+  finished K ks cs ms ts hk held hc hm ht far =
+      let e : K ≡ length (ks .at) = sym (held .0) in
+      record {
+        someKeys = omega (arith, hk .0, held .0);
+        mostKeys = omega (arith, hk .1, held .0);
+        keys = held .1;
+        someCommands = hc .0;
+        mostCommands = hc .1 .0;
+        commands =
+            subst (λ (n : ℕ). Every (Within n (length cs)) cs) e
+            (every-both (Plain (limits K (f .commands))) (λ (c : Command). c .t ≤ length cs) (Within K (length cs)) (λ c h b. tightened K (f .commands) (length cs) c h b) cs (hc .1 .1) far);
+        bare = every-both (Plain (limits K (f .commands))) (λ (c : Command). c .t ≤ length cs) Bare (λ c h b. h .1) cs (hc .1 .1) far;
+        mostMessages = hm .0;
+        messages = subst (λ (n : ℕ). Every (Full n) ms) e (hm .1);
+        someTurns = ht .0;
+        mostTurns = ht .1;
+      }
+
+  module _ (K : ℕ) (some : 1 ≤ K) (n : ℕ) (ls : List (List ℕ)) where
+    commands-ok : ReadOf (Coming K) (readCommands f K n ls)
+    unfolding readCommands
+    commands-ok =
+        let m = f .commands in
+        let P = Plain (limits K m) in
+        let g = readCommand (limits K m) in
+        some-ok P m (many (bytes "do") (oneMore m g) n [] ls)
+        (many-ok (AtMost P m) (bytes "do") (oneMore m g) n [] ls (λ cs s h. oneMore-ok P m g cs s (command-ok (limits K m) some s) h) (zero-le, tt))
+
+    messages-ok : ReadOf (AtMost (Full K) (f .messages)) (readMessages f K n ls)
+    unfolding readMessages
+    messages-ok =
+        many-ok (AtMost (Full K) (f .messages)) (bytes "msg") (oneMore (f .messages) (messageLine K)) n [] ls
+        (λ ms s h. oneMore-ok (Full K) (f .messages) (messageLine K) ms s (message-line-ok K some s) h) (zero-le, tt)
+
+  letters-read-ok : (n : ℕ) (ls : List (List ℕ)) → ReadOf (Lettered f) (readTurns f n ls)
+  unfolding readTurns
+  letters-read-ok n ls = nothing-ok (Lettered f) (one (bytes "turns") (turnsLine f) n ls) (one-ok (Lettered f) (bytes "turns") (turnsLine f) n ls (turns-ok f))
+
+  body-ok : (K : ℕ) (ks : ByKey Key) (top : ℕ) (ls : List (List ℕ)) → Positive (f .keys) K → Held KeyInRange K ks → AcceptedOf (SoundBy f) (readBody f (ks .at) K top ls)
+  unfolding readBody
+  body-ok K ks top ls hk held =
+      next-ok (SoundBy f) (Coming K) (readCommands f K top ls) _ (commands-ok K (hk .0) top ls) (λ cs n₁ ls₁ hc.
+      next-ok (SoundBy f) (AtMost (Full K) (f .messages)) (readMessages f K n₁ ls₁) _ (messages-ok K (hk .0) n₁ ls₁) (λ ms n₂ ls₂ hm.
+      next-ok (SoundBy f) (Lettered f) (readTurns f n₂ ls₂) _ (letters-read-ok n₂ ls₂) (λ ts n₃ ls₃ ht.
+      targets-ok (SoundBy f) top (length cs) cs _ (finished K ks cs ms ts hk held hc hm ht))))
+
+  keys-ok : (n : ℕ) (ls : List (List ℕ)) → ReadOf (Positive (f .keys)) (readKeys f n ls)
+  unfolding readKeys keysLine
+  keys-ok n ls = one-ok (Positive (f .keys)) (bytes "keys") (keysLine f) n ls (λ s. fromOne-ok (f .keys) s)
+
+-- the first line chooses the form, and there is one
 lines-ok : (ls : List (List ℕ)) → AcceptedOf Sound (readLines ls)
-unfolding readLines readFirst readKeys keysLine
+unfolding readLines readFirst formOf
 lines-ok ls =
     next-ok Sound Any (readFirst 1 ls) _ (one-ok Any (bytes "sheet") sheetLine 1 ls (λ s. any (sheetLine s))) (λ a n₁ ls₁ h.
-    next-ok Sound (Positive mostKeys) (readKeys n₁ ls₁) _ (one-ok (Positive mostKeys) (bytes "keys") keysLine n₁ ls₁ (λ s. fromOne-ok mostKeys s)) (λ K n₂ ls₂ hk.
+    next-ok Sound (Positive (formOf a .keys)) (readKeys (formOf a) n₁ ls₁) _ (keys-ok (formOf a) n₁ ls₁) (λ K n₂ ls₂ hk.
     next-ok Sound (Held KeyInRange K) (readSecrets K n₂ ls₂) _ (secrets-ok K (hk .0) n₂ ls₂) (λ ks top ls₃ held.
-    body-ok K ks top ls₃ hk held)))
+    body-ok (formOf a) K ks top ls₃ hk held)))
 
 sheet-ok : (s : List ℕ) → AcceptedOf Sound (readSheet s)
 unfolding readSheet

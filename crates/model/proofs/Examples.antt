@@ -9,6 +9,7 @@ use Rattle.model.specs.Messages as Messages
 use Rattle.model.specs.Turns as Turns
 use Rattle.model.specs.Phase as Phase
 use Rattle.model.specs.Program as Program
+use Rattle.model.specs.Form as Form
 use Rattle.model.specs.Sheet as Sheet
 use Rattle.model.specs.Arith as Arith
 use Rattle.model.specs.Step as Step
@@ -32,6 +33,7 @@ unfolding Text.bytes Text.classOf Text.same Text.find Text.divide Text.split Tex
     Program.readCommands
     Messages.parts Messages.message Messages.messageLine Messages.readMessages
     Turns.letter Turns.letters Turns.turnsLine Turns.readTurns
+    Form.formOf
     Sheet.targets Sheet.readBody Sheet.readLines Sheet.forbiddenLine Sheet.closed Sheet.readSheet
     Arith.clamp Arith.sum Arith.difference Arith.product Arith.quotient
     Step.does Step.callOf

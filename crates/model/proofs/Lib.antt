@@ -1,6 +1,7 @@
 -- The proofs about the model.
 pub mod Examples
 pub mod Stored
+pub mod Forms
 pub mod Counted
 pub mod Lockstep
 pub mod Line

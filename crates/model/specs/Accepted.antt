@@ -4,9 +4,9 @@ use lib.{IntN.ℤ, IntN.pos, Signed.mag, Dec.eqb, ListN.length, ListN.getD}
 use mathlib.Core.Bool.{Bool, true, false, cond}
 use mathlib.Core.List.{List, [], _∷_}
 use mathlib.Core.Path.{_≡_}
-use Rattle.model.specs.{Limits.greatestNumber, Limits.variables, Limits.mostKeys, Limits.mostCommands, Limits.mostMessages, Limits.mostLetters, Command.Row}
+use Rattle.model.specs.{Limits.greatestNumber, Limits.variables, Form.formOne, Command.Row}
 use Rattle.model.specs.{Command.table, Job.Job, Sheet.accepted, Sheet.readSheet, Parsed.got, Pair.pair}
-use Rattle.model.specs.Data.{Entry, Absent, Number, Key, Open, Secret, Op, Set, Add, Sub, Mul, Div, Read, Has, Put, Drop, IfNeg, IfZero, Jump, Receive, Send, Stop}
+use Rattle.model.specs.Data.{Form, Entry, Absent, Number, Key, Open, Secret, Op, Set, Add, Sub, Mul, Div, Read, Has, Put, Drop, IfNeg, IfZero, Jump, Receive, Send, Stop}
 use Rattle.model.specs.Data.{Command, Operand, InV, InW, InK, InT, InN}
 
 -- "from -2147483648 to 2147483647": `mag` of a number n is n, and of -(n + 1) it is n too
@@ -92,18 +92,23 @@ Every P (x ∷ xs) = P x × Every P xs
 abbrev pub Full : ℕ → List Entry → Type 0
 Full keys es = (length es ≡ keys) × Every EntryInRange es
 
-pub record Sound (j : Job) : Type 0 where
+-- a job within the limits of a form
+pub record SoundBy (f : Form) (j : Job) : Type 0 where
   pub someKeys : 1 ≤ length (j .keys)
-  pub mostKeys : length (j .keys) ≤ mostKeys
+  pub mostKeys : length (j .keys) ≤ f .keys
   pub keys : Every KeyInRange (j .keys)
   pub someCommands : 1 ≤ length (j .commands)
-  pub mostCommands : length (j .commands) ≤ mostCommands
+  pub mostCommands : length (j .commands) ≤ f .commands
   pub commands : Every (Within (length (j .keys)) (length (j .commands))) (j .commands)
   pub bare : Every Bare (j .commands)
-  pub mostMessages : length (j .messages) ≤ mostMessages
+  pub mostMessages : length (j .messages) ≤ f .messages
   pub messages : Every (Full (length (j .keys))) (j .messages)
   pub someTurns : 1 ≤ length (j .turns)
-  pub mostTurns : length (j .turns) ≤ mostLetters
+  pub mostTurns : length (j .turns) ≤ f .letters
+
+-- the one form that there is: a job does not say which form it was written in
+abbrev pub Sound : Job → Type 0
+Sound j = SoundBy formOne j
 
 abbrev pub AcceptedSound : Type 0
 AcceptedSound = (s : List ℕ) (j : Job) → readSheet s ≡ accepted j → Sound j

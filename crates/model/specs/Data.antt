@@ -1,4 +1,5 @@
 -- The plain data of src/lib.rt, passed on under one name.
+pub use Rattle.model.specs.declared.Form.{Form}
 pub use Rattle.model.specs.declared.Entry.{Entry}
 pub use Rattle.model.specs.declared.Entry.the-variants.{Absent, Number}
 pub use Rattle.model.specs.declared.Field.{Field}

@@ -13,6 +13,7 @@ pub mod Messages
 pub mod Turns
 pub mod Job
 pub mod Stored
+pub mod Form
 pub mod Sheet
 pub mod Arith
 pub mod Step

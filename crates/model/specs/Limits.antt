@@ -1,4 +1,4 @@
--- The limits of a sheet, each named here and nowhere else.
+-- The limits of a sheet, each named here and nowhere else. Those of keys, commands, messages and letters are the first form's (`Form.formOne`).
 use Prim.Native.Nat.{ℕ}
 
 -- "A sheet has at most 16,384 bytes."

@@ -1,9 +1,9 @@
--- The `msg` lines.
+-- The `msg` lines of a sheet of the form f.
 use mathlib.Core.List.{List, [], _∷_}
 use Prim.Native.Nat.{ℕ}
-use Rattle.model.specs.{Parsed.Parsed, Parsed.got, Parsed._>>=_, Pair.ByKey, Pair.part, Pair.everywhere, Text.split, Text.comma, Text.bytes, Limits.mostMessages}
+use Rattle.model.specs.{Parsed.Parsed, Parsed.got, Parsed._>>=_, Pair.ByKey, Pair.part, Pair.everywhere, Text.split, Text.comma, Text.bytes}
 use Rattle.model.specs.{Phase.Phase, Phase.many, Phase.oneMore}
-use Rattle.model.specs.Data.{Entry, Absent, Number}
+use Rattle.model.specs.Data.{Form, Entry, Absent, Number}
 
 -- "Parts run from left to right."
 unfoldable pub parts : ℕ → ByKey Entry → List (List ℕ) → Parsed (ByKey Entry)
@@ -21,5 +21,5 @@ message K (b ∷ bs) = parts K (allAbsent K) (split comma (b ∷ bs))
 unfoldable pub messageLine : ℕ → List ℕ → Parsed (List Entry)
 messageLine K s = message K s >>= (λ e. got (e .at))
 
-unfoldable pub readMessages : ℕ → ℕ → List (List ℕ) → Phase (List (List Entry))
-readMessages K n ls = many (bytes "msg") (oneMore mostMessages (messageLine K)) n [] ls
+unfoldable pub readMessages : Form → ℕ → ℕ → List (List ℕ) → Phase (List (List Entry))
+readMessages f K n ls = many (bytes "msg") (oneMore (f .messages) (messageLine K)) n [] ls

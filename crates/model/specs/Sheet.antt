@@ -4,8 +4,8 @@ use mathlib.Core.List.{List, [], _∷_}
 use mathlib.Core.Bool.{cond, Bool, false}
 use lib.{Dec.ltb, Dec.eqb, Dec.leb, ListN.length}
 use Rattle.model.specs.{Job.Job, Phase.Phase, Head.readFirst, Head.readKeys, Head.readSecrets, Program.readCommands, Messages.readMessages, Turns.readTurns}
-use Rattle.model.specs.{Text.classOf, Text.forbiddenClass, Text.lineFeed, Text.lines, Text.count, Limits.mostBytes}
-use Rattle.model.specs.Data.{Key, Command}
+use Rattle.model.specs.{Text.classOf, Text.forbiddenClass, Text.lineFeed, Text.lines, Text.count, Limits.mostBytes, Form.formOf}
+use Rattle.model.specs.Data.{Form, Key, Command}
 use Rattle.model.specs.Phase as Phase
 
 -- "A sheet is accepted exactly when no refusal from the input other than 10 applies to it."
@@ -24,21 +24,22 @@ unfoldable pub targets : ℕ → ℕ → List Command → Job → Reading
 targets n m [] j = accepted j
 targets n m (c ∷ cs) j = cond (ltb m (c .t)) (refused 7 n) (targets (n + 1) m cs j)
 
--- the lines after the secrets: there are K keys, which are ks, and the first `do` line is the line top
-unfoldable pub readBody : List Key → ℕ → ℕ → List (List ℕ) → Reading
-readBody ks K top ls₀ =
-    next (readCommands K top ls₀) (λ cs n₁ ls₁.
-    next (readMessages K n₁ ls₁) (λ ms n₂ ls₂.
-    next (readTurns n₂ ls₂) (λ ts n₃ ls₃.
+-- the lines after the secrets of a sheet of the form f: there are K keys, which are ks, and the first `do` line is the line top
+unfoldable pub readBody : Form → List Key → ℕ → ℕ → List (List ℕ) → Reading
+readBody f ks K top ls₀ =
+    next (readCommands f K top ls₀) (λ cs n₁ ls₁.
+    next (readMessages f K n₁ ls₁) (λ ms n₂ ls₂.
+    next (readTurns f n₂ ls₂) (λ ts n₃ ls₃.
     targets top (length cs) cs (record { keys = ks; commands = cs; messages = ms; turns = ts }))))
 
--- "then line by line from the top"
+-- "then line by line from the top": the first line chooses the form of those after it
 unfoldable pub readLines : List (List ℕ) → Reading
 readLines ls₀ =
-    next (readFirst 1 ls₀) (λ one n₁ ls₁.
-    next (readKeys n₁ ls₁) (λ K n₂ ls₂.
+    next (readFirst 1 ls₀) (λ number n₁ ls₁.
+    let f = formOf number in
+    next (readKeys f n₁ ls₁) (λ K n₂ ls₂.
     next (readSecrets K n₂ ls₂) (λ ks top ls₃.
-    readBody (ks .at) K top ls₃)))
+    readBody f (ks .at) K top ls₃)))
 
 -- ---- The whole sheet
 

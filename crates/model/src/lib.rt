@@ -6,21 +6,22 @@ ghost use mathlib.Core.Path.{_≡_};
 ghost use Prim.Native.Nat.{_<_};
 ghost use lib.ListN.{replicate};
 ghost use Rattle.model.specs.{Limits.variables, Command.blank, Step.begun as Execution·begun, Step.afterOf, Step.calledOf, Stored.keyCapacity};
-ghost use Rattle.model.specs.{Stored.commandCapacity, Stored.messageCapacity, Stored.openSlot, Stored.absentSlot, Stored.blankLine, Stored.nothingStored};
+ghost use Rattle.model.specs.{Stored.commandCapacity, Stored.messageCapacity, Stored.openSlot, Stored.absentSlot, Stored.blankLine, Stored.nothingStored, Form.formOne};
 ghost use Rattle.model.specs.declared.Op.the-variants.{Stop};
 
-// The limits of a sheet.
+// The limits of every sheet.
 pub const MOST_BYTES: usize = 16384;
 
-pub const MOST_KEYS: u64 = 8;
-
-pub const MOST_COMMANDS: usize = 64;
-
-pub const MOST_MESSAGES: usize = 32;
-
-pub const MOST_LETTERS: usize = 1024;
-
 pub const LAST_VARIABLE: u64 = 7;
+
+// The limits of a sheet that begins `sheet=1`.
+const MOST_KEYS: u64 = 8;
+
+const MOST_COMMANDS: usize = 64;
+
+const MOST_MESSAGES: usize = 32;
+
+const MOST_LETTERS: usize = 1024;
 
 // The ends of the range of numbers, without their signs.
 pub const GREATEST_NUMBER: u64 = 2147483647;
@@ -42,6 +43,33 @@ pub const VARIABLES: usize = 8;
 pub const NUMBERS: usize = 6;
 
 pub const ANSWER_BYTES: usize = 4 * NUMBERS;
+
+// A form of sheets, which the line `sheet` chooses: the most keys, commands, messages and letters that such a sheet may have, and the bytes of the
+// letters of its turns.
+pub struct Form {
+    pub keys: u64,
+    pub commands: usize,
+    pub messages: usize,
+    pub letters: usize,
+    pub low: u8,
+    pub high: u8,
+}
+
+impl Form {
+    // The form of `sheet=1`.
+    pub fn one() -> Form
+        ensures { λ r. ⌜ r ≡ formOne ⌝ }
+    {
+        Form {
+            keys: MOST_KEYS,
+            commands: MOST_COMMANDS,
+            messages: MOST_MESSAGES,
+            letters: MOST_LETTERS,
+            low: b'L',
+            high: b'H',
+        }
+    }
+}
 
 // An entry of a message: absent, or one number.
 pub enum Entry {

@@ -1,8 +1,8 @@
 // The `msg` lines, each made of `key:value` parts.
 use model::Entry;
 use model::EntrySlot;
+use model::Form;
 use model::MESSAGE_CAPACITY;
-use model::MOST_MESSAGES;
 use model::MessageLine;
 use model::StoredJob;
 use read_line::Checked;
@@ -15,7 +15,7 @@ use read_text::find_byte;
 ghost use mathlib.Core.Path.{_≡_};
 ghost use Prim.Native.Nat.{_+_, _<_, _≤_};
 ghost use lib.ListN.{length};
-ghost use Rattle.model.specs.{Messages.messageLine, Stored.keyCapacity};
+ghost use Rattle.model.specs.{Messages.messageLine, Stored.keyCapacity, Form.Fits};
 ghost use Rattle.read_messages.specs.Messages.{messageAs, MessagesRead};
 
 // A message line, which counts where it was read.
@@ -75,9 +75,9 @@ pub fn read_message(s: &[u8], keys: u64) -> Message
 }
 
 // The `msg` lines at the start of s, of which the first has the number first.
-pub fn read_messages(s: &[u8], keys: u64, first: u32) -> Messages
-    requires { ⌜ (1 ≤ keys) × (keys ≤ keyCapacity) × (first + length (now s) < 4294967296) ⌝ }
-    ensures { λ r. ⌜ MessagesRead keys (now (s .entry)) first r ⌝ }
+pub fn read_messages(s: &[u8], form: Form, keys: u64, first: u32) -> Messages
+    requires { ⌜ Fits form × (1 ≤ keys) × (keys ≤ form .keys) × (first + length (now s) < 4294967296) ⌝ }
+    ensures { λ r. ⌜ MessagesRead form keys (now (s .entry)) first r ⌝ }
 {
     let mut messages = StoredJob::no_messages();
     let mut count: usize = 0;
@@ -92,7 +92,7 @@ pub fn read_messages(s: &[u8], keys: u64, first: u32) -> Messages
                 break;
             }
             Found::At(v, e) => {
-                if MOST_MESSAGES <= count {
+                if form.messages <= count {
                     phase = Phase::Refused(8, line);
                     break;
                 }

@@ -1,14 +1,14 @@
--- Laws of the commands' phase, and of the targets from the place i on.
+-- Laws of the commands' phase of a sheet of the form f, and of the targets from the place i on.
 use mathlib.Core.Path.{_≡_, refl, sym, ap, _∙_}
 use mathlib.Core.List.{List, [], _∷_, map}
 use Prim.Native.Nat.{ℕ, _+_, _<_, _≤_, zero-le}
 use native.Mathlib.{Numerals.add-one, Omega.arith}
 use lib.{ListN.length, ListN.take, ListN.drop, ListN.getD, ListN.drop-of-length-le, Seq.drop-cons, Seq.getD-take, Seq.length-take-le}
 use borrow.Author.Tests.{lt-ltb, le-ltb}
-use Rattle.model.specs.{Limits.mostCommands, Text.bytes, Text.lines, Command.limits, Command.readCommand, Job.Job, Phase.many, Phase.oneMore, Phase.some}
+use Rattle.model.specs.{Text.bytes, Text.lines, Command.limits, Command.readCommand, Job.Job, Phase.many, Phase.oneMore, Phase.some}
 use Rattle.model.specs.{Program.readCommands, Sheet.targets, Stored.commandCapacity}
 use Rattle.model.specs.Phase as Model
-use Rattle.model.specs.declared.Command.{Command}
+use Rattle.model.specs.declared.{Form.Form, Command.Command}
 use Rattle.read_text.specs.Text.{free, Word}
 use Rattle.read_line.specs.Phase.{Reads}
 use Rattle.read_program.specs.Program.{FirstFar}
@@ -35,19 +35,19 @@ some-some : (n : ℕ) (ls : List (List ℕ)) (cs : List Command) → (length cs 
 some-some n ls [] h = absurd (h refl)
 some-some n ls (c ∷ cs) h = refl
 
-abbrev pub doLines : ℕ → ℕ → List (List ℕ) → Model.Phase (List Command)
-doLines K n ls = many (bytes "do") (oneMore mostCommands (readCommand (limits K mostCommands))) n [] ls
+abbrev pub doLines : Form → ℕ → ℕ → List (List ℕ) → Model.Phase (List Command)
+doLines f K n ls = many (bytes "do") (oneMore (f .commands) (readCommand (limits K (f .commands)))) n [] ls
 
-pub commands-refused : (K : ℕ) {first r n : ℕ} {s : List ℕ} {xs : List Command} → Reads (doLines K) s first (Refused r n) xs → Reads (readCommands K) s first (Refused r n) xs
+pub commands-refused : (f : Form) (K : ℕ) {first r n : ℕ} {s : List ℕ} {xs : List Command} → Reads (doLines f K) s first (Refused r n) xs → Reads (readCommands f K) s first (Refused r n) xs
 unfolding readCommands
-commands-refused K h = record { read = ap some (h .read); ahead = tt }
+commands-refused f K h = record { read = ap some (h .read); ahead = tt }
 
-module _ (K m : ℕ) (cs : List Command) {first n b : ℕ} {s : List ℕ} (h : Reads (doLines K) s first (Got n b) (map itself (take m cs))) (l : m ≤ length cs) where
-  pub commands-none : m ≡ 0 → Reads (readCommands K) s first (Refused 3 n) (take m cs)
+module _ (f : Form) (K m : ℕ) (cs : List Command) {first n b : ℕ} {s : List ℕ} (h : Reads (doLines f K) s first (Got n b) (map itself (take m cs))) (l : m ≤ length cs) where
+  pub commands-none : m ≡ 0 → Reads (readCommands f K) s first (Refused 3 n) (take m cs)
   unfolding readCommands
   commands-none z = record { read = sym (some-none n (lines (drop b s)) (map itself (take m cs)) (rw (map-itself, length-take-le m cs l) z)) ∙ ap some (h .read); ahead = tt }
 
-  pub commands-some : (m ≡ 0 → ⊥) → Reads (readCommands K) s first (Got n b) (take m cs)
+  pub commands-some : (m ≡ 0 → ⊥) → Reads (readCommands f K) s first (Got n b) (take m cs)
   unfolding readCommands
   commands-some z =
       let e = map-itself (take m cs) in

@@ -1,7 +1,7 @@
 // The `do` lines of a sheet, and the targets of its commands.
 use model::COMMAND_CAPACITY;
 use model::Command;
-use model::MOST_COMMANDS;
+use model::Form;
 use model::StoredJob;
 use read_command::Line;
 use read_command::read_command;
@@ -10,7 +10,7 @@ use read_line::Phase;
 use read_line::first_line;
 ghost use Prim.Native.Nat.{_+_, _<_, _≤_};
 ghost use lib.ListN.{length};
-ghost use Rattle.model.specs.Stored.{keyCapacity};
+ghost use Rattle.model.specs.Form.{Fits};
 ghost use Rattle.read_program.specs.Program.{CommandsRead, FirstFar};
 
 // The first count commands of the array.
@@ -21,9 +21,9 @@ pub struct Commands {
 }
 
 // The `do` lines at the start of s, of which the first has the number first. There is one at least.
-pub fn read_commands(s: &[u8], keys: u64, first: u32) -> Commands
-    requires { ⌜ (1 ≤ keys) × (keys ≤ keyCapacity) × (first + length (now s) < 4294967296) ⌝ }
-    ensures { λ r. ⌜ CommandsRead keys (now (s .entry)) first r ⌝ }
+pub fn read_commands(s: &[u8], form: Form, keys: u64, first: u32) -> Commands
+    requires { ⌜ Fits form × (1 ≤ keys) × (keys ≤ form .keys) × (first + length (now s) < 4294967296) ⌝ }
+    ensures { λ r. ⌜ CommandsRead form keys (now (s .entry)) first r ⌝ }
 {
     let mut commands = StoredJob::no_commands();
     let mut count: usize = 0;
@@ -42,11 +42,11 @@ pub fn read_commands(s: &[u8], keys: u64, first: u32) -> Commands
                 break;
             }
             Found::At(v, e) => {
-                if MOST_COMMANDS <= count {
+                if form.commands <= count {
                     phase = Phase::Refused(8, line);
                     break;
                 }
-                match read_command(&t[v..e], keys, MOST_COMMANDS as u64) {
+                match read_command(&t[v..e], keys, form.commands as u64) {
                     Line::Refused(r) => {
                         phase = Phase::Refused(r, line);
                         break;

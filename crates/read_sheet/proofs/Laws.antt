@@ -6,11 +6,11 @@ use Prim.Native.Nat.{ℕ, suc, _+_, _-_, _<_, _≤_}
 use native.Mathlib.Omega.{arith}
 use lib.{Dec.eqb, ListN.length, ListN.take, ListN.drop, ListN.length-drop}
 use borrow.Author.Tests.{lt-ltb, le-ltb, le-leb, lt-leb}
-use Rattle.model.specs.{Limits.mostBytes, Limits.mostKeys, Text.bytes, Text.lines, Text.count, Text.classOf, Text.lineFeed, Pair.ByKey, Head.sheetLine, Head.keysLine}
+use Rattle.model.specs.{Limits.mostBytes, Text.bytes, Text.lines, Text.count, Text.classOf, Text.lineFeed, Pair.ByKey, Form.formOf, Head.sheetLine, Head.keysLine}
 use Rattle.model.specs.{Head.readFirst, Head.readKeys, Head.readSecrets, Program.readCommands, Messages.readMessages, Turns.readTurns, Job.Job, Sheet.Reading}
 use Rattle.model.specs.{Sheet.accepted, Sheet.refused, Sheet.next, Sheet.targets, Sheet.readBody, Sheet.readLines, Sheet.forbiddenLine, Sheet.closed, Sheet.readSheet}
 use Rattle.model.specs.Phase as Model
-use Rattle.model.specs.declared.{Entry.Entry, Key.Key, Command.Command, Level.Level}
+use Rattle.model.specs.declared.{Form.Form, Entry.Entry, Key.Key, Command.Command, Level.Level}
 use Rattle.read_text.specs.Text.{free, Word}
 use Rattle.read_line.specs.Phase.{Reads, Ahead, phaseAs}
 use Rattle.read_line.specs.declared.Phase.{Phase}
@@ -36,9 +36,9 @@ module _ {s : List ℕ} {n : ℕ} {r : NumberLine} where
   unfolding readFirst sheetLine
   first-phase h = h .read (bytes "sheet") sheet-word
 
-  pub keys-phase : NumberRead (107 ∷ 101 ∷ 121 ∷ 115 ∷ 61 ∷ []) mostKeys s n r → Reads readKeys s n (r .phase) (r .value)
+  pub keys-phase : (f : Form) → NumberRead (107 ∷ 101 ∷ 121 ∷ 115 ∷ 61 ∷ []) (f .keys) s n r → Reads (readKeys f) s n (r .phase) (r .value)
   unfolding readKeys keysLine
-  keys-phase h = h .read (bytes "keys") keys-word
+  keys-phase f h = h .read (bytes "keys") keys-word
 
 -- the same answer to an equal reading
 pub answers : {x y : Reading} {r : Read} → y ≡ x → Answers x r → Answers y r
@@ -74,61 +74,66 @@ module _ {A : Type 0} {P : ℕ → List (List ℕ) → Model.Phase A} {s : List 
 
 -- ---- The first line, the keys and the secrets
 
-abbrev afterKeys : ℕ → ℕ → List (List ℕ) → Reading
-afterKeys K n₁ ls₂ = next (readSecrets K n₁ ls₂) (λ ks top ls₃. readBody (ks .at) K top ls₃)
+abbrev afterSecrets : Form → ℕ → ByKey Key → ℕ → List (List ℕ) → Reading
+afterSecrets f K ks top ls₃ = readBody f (ks .at) K top ls₃
 
-abbrev afterFirst : ℕ → ℕ → List (List ℕ) → Reading
-afterFirst x n₀ ls₁ = next (readKeys n₀ ls₁) afterKeys
+abbrev afterKeys : Form → ℕ → ℕ → List (List ℕ) → Reading
+afterKeys f K n₁ ls₂ = next (readSecrets K n₁ ls₂) (afterSecrets f K)
+
+abbrev afterForm : Form → ℕ → List (List ℕ) → Reading
+afterForm f n₀ ls₁ = next (readKeys f n₀ ls₁) (afterKeys f)
 
 module _ {s : List ℕ} {c₀ : Phase} {x : ℕ} (h₀ : Reads readFirst s 1 c₀ x) where
   pub stop-first : {r n : ℕ} → c₀ ≡ Refused r n → readLines (lines s) ≡ refused r n
   unfolding readLines readBody
-  stop-first q = stops h₀ afterFirst q
+  stop-first q = stops h₀ (λ number. afterForm (formOf number)) q
 
-  module _ {n₀ a : ℕ} (q₀ : c₀ ≡ Got n₀ a) {t : List ℕ} (d₀ : t ≡ drop a s) {c₁ : Phase} {K : ℕ} (h₁ : Reads readKeys t n₀ c₁ K) where
-    pub stop-keys : {r n : ℕ} → c₁ ≡ Refused r n → readLines (lines s) ≡ refused r n
+  module _ {n₀ a : ℕ} (q₀ : c₀ ≡ Got n₀ a) {t : List ℕ} (d₀ : t ≡ drop a s) (f : Form) (e : f ≡ formOf x) {c₁ : Phase} {K : ℕ} (h₁ : Reads (readKeys f) t n₀ c₁ K) where
+    -- the lines after the first one are read by its form
+    chosen : readLines (lines s) ≡ afterForm f n₀ (lines t)
     unfolding readLines readBody
-    stop-keys q = goes-on h₀ afterFirst q₀ d₀ ∙ stops h₁ afterKeys q
+    chosen = goes-on h₀ (λ number. afterForm (formOf number)) q₀ d₀ ∙ ap (λ (g : Form). afterForm g n₀ (lines t)) (sym e)
+
+    pub stop-keys : {r n : ℕ} → c₁ ≡ Refused r n → readLines (lines s) ≡ refused r n
+    stop-keys q = chosen ∙ stops h₁ (afterKeys f) q
 
     module _ {n₁ b : ℕ} (q₁ : c₁ ≡ Got n₁ b) {u : List ℕ} (d₁ : u ≡ drop b t) {c₂ : Phase} {ks : ByKey Key} (h₂ : Reads (readSecrets K) u n₁ c₂ ks) where
       pub stop-secrets : {r n : ℕ} → c₂ ≡ Refused r n → readLines (lines s) ≡ refused r n
-      unfolding readLines readBody
-      stop-secrets q = goes-on h₀ afterFirst q₀ d₀ ∙ goes-on h₁ afterKeys q₁ d₁ ∙ stops h₂ (λ e top ls₃. readBody (e .at) K top ls₃) q
+      stop-secrets q = chosen ∙ goes-on h₁ (afterKeys f) q₁ d₁ ∙ stops h₂ (afterSecrets f K) q
 
-      pub heads-read : {top d : ℕ} {v : List ℕ} → c₂ ≡ Got top d → v ≡ drop d u → readLines (lines s) ≡ readBody (ks .at) K top (lines v)
-      unfolding readLines readBody
-      heads-read q d₂ = goes-on h₀ afterFirst q₀ d₀ ∙ goes-on h₁ afterKeys q₁ d₁ ∙ goes-on h₂ (λ e top ls₃. readBody (e .at) K top ls₃) q d₂
+      pub heads-read : {top d : ℕ} {v : List ℕ} → c₂ ≡ Got top d → v ≡ drop d u → readLines (lines s) ≡ readBody f (ks .at) K top (lines v)
+      heads-read q d₂ = chosen ∙ goes-on h₁ (afterKeys f) q₁ d₁ ∙ goes-on h₂ (afterSecrets f K) q d₂
 
 -- ---- The commands, the messages and the turns
 
 abbrev job : List Key → List Command → List (List Entry) → List Level → Job
 job ks cs ms ts = record { keys = ks; commands = cs; messages = ms; turns = ts }
 
-module _ (ks : List Key) (K : ℕ) {top : ℕ} {s : List ℕ} {c₀ : Phase} {cs : List Command} (h₀ : Reads (readCommands K) s top c₀ cs) where
+module _ (f : Form) (ks : List Key) (K : ℕ) {top : ℕ} {s : List ℕ} {c₀ : Phase} {cs : List Command} (h₀ : Reads (readCommands f K) s top c₀ cs) where
   abbrev afterMessages : List Command → List (List Entry) → ℕ → List (List ℕ) → Reading
-  afterMessages cs ms n₂ ls₂ = next (readTurns n₂ ls₂) (λ ts n₃ ls₃. targets top (length cs) cs (job ks cs ms ts))
+  afterMessages cs ms n₂ ls₂ = next (readTurns f n₂ ls₂) (λ ts n₃ ls₃. targets top (length cs) cs (job ks cs ms ts))
 
   abbrev afterCommands : List Command → ℕ → List (List ℕ) → Reading
-  afterCommands cs n₂ ls₄ = next (readMessages K n₂ ls₄) (afterMessages cs)
+  afterCommands cs n₂ ls₄ = next (readMessages f K n₂ ls₄) (afterMessages cs)
 
-  pub stop-commands : {r n : ℕ} → c₀ ≡ Refused r n → readBody ks K top (lines s) ≡ refused r n
+  pub stop-commands : {r n : ℕ} → c₀ ≡ Refused r n → readBody f ks K top (lines s) ≡ refused r n
   unfolding readBody
   stop-commands q = stops h₀ afterCommands q
 
-  module _ {n₂ a : ℕ} (q₀ : c₀ ≡ Got n₂ a) {t : List ℕ} (d₀ : t ≡ drop a s) {c₁ : Phase} {ms : List (List Entry)} (h₁ : Reads (readMessages K) t n₂ c₁ ms) where
-    pub stop-messages : {r n : ℕ} → c₁ ≡ Refused r n → readBody ks K top (lines s) ≡ refused r n
+  module _ {n₂ a : ℕ} (q₀ : c₀ ≡ Got n₂ a) {t : List ℕ} (d₀ : t ≡ drop a s) {c₁ : Phase} {ms : List (List Entry)} (h₁ : Reads (readMessages f K) t n₂ c₁ ms) where
+    pub stop-messages : {r n : ℕ} → c₁ ≡ Refused r n → readBody f ks K top (lines s) ≡ refused r n
     unfolding readBody
     stop-messages q = goes-on h₀ afterCommands q₀ d₀ ∙ stops h₁ (afterMessages cs) q
 
-    module _ {n₃ b : ℕ} (q₁ : c₁ ≡ Got n₃ b) {u : List ℕ} (d₁ : u ≡ drop b t) {c₂ : Phase} {ts : List Level} (h₂ : Reads readTurns u n₃ c₂ ts) where
+    module _ {n₃ b : ℕ} (q₁ : c₁ ≡ Got n₃ b) {u : List ℕ} (d₁ : u ≡ drop b t) {c₂ : Phase} {ts : List Level} (h₂ : Reads (readTurns f) u n₃ c₂ ts) where
       abbrev finished : List Level → ℕ → List (List ℕ) → Reading
       finished ls n ls₃ = targets top (length cs) cs (job ks cs ms ls)
 
-      pub stop-turns : {r n : ℕ} → c₂ ≡ Refused r n → readBody ks K top (lines s) ≡ refused r n
+      pub stop-turns : {r n : ℕ} → c₂ ≡ Refused r n → readBody f ks K top (lines s) ≡ refused r n
       unfolding readBody
       stop-turns q = goes-on h₀ afterCommands q₀ d₀ ∙ goes-on h₁ (afterMessages cs) q₁ d₁ ∙ stops h₂ finished q
 
-      pub body-read : {n d : ℕ} → c₂ ≡ Got n d → readBody ks K top (lines s) ≡ targets top (length cs) cs (job ks cs ms ts)
+      pub body-read : {n d : ℕ} → c₂ ≡ Got n d → readBody f ks K top (lines s) ≡ targets top (length cs) cs (job ks cs ms ts)
       unfolding readBody
       body-read {n} {d} q = goes-on h₀ afterCommands q₀ d₀ ∙ goes-on h₁ (afterMessages cs) q₁ d₁ ∙ goes-on h₂ finished {t = drop d u} q refl
 

@@ -1,8 +1,8 @@
 // A whole sheet: the job that it says, or the refusal that comes first.
+use model::Form;
 use model::KEY_CAPACITY;
 use model::KeySlot;
 use model::MOST_BYTES;
-use model::MOST_KEYS;
 use model::StoredJob;
 use read_head::number_line;
 use read_head::read_secrets;
@@ -14,9 +14,10 @@ use read_text::count_byte;
 use read_text::forbidden_line;
 use read_text::is_closed;
 use read_turns::read_turns;
+ghost use mathlib.Core.Path.{_≡_};
 ghost use Prim.Native.Nat.{_+_, _≤_};
 ghost use lib.ListN.{length, take};
-ghost use Rattle.model.specs.{Limits.mostBytes, Text.lines, Stored.keyCapacity, Stored.keysIn, Stored.Stored, Stored.jobOf, Sheet.refused, Sheet.targets, Sheet.readBody};
+ghost use Rattle.model.specs.{Limits.mostBytes, Text.lines, Stored.keysIn, Stored.Stored, Stored.jobOf, Form.formOf, Form.Fits, Sheet.refused, Sheet.targets, Sheet.readBody};
 ghost use Rattle.model.specs.{Sheet.readLines, Sheet.readSheet};
 ghost use Rattle.read_sheet.specs.Sheet.{Answers};
 
@@ -58,23 +59,30 @@ fn test_targets(job: StoredJob, top: u32) -> Read
     }
 }
 
-// The lines after the secrets, the first of which is the line top.
-fn read_body(s: &[u8], keys: u64, secrets: [KeySlot; KEY_CAPACITY], top: u32) -> Read
-    requires { ⌜ (1 ≤ keys) × (keys ≤ keyCapacity) × (top + length (now s) ≤ mostBytes + 1) ⌝ }
-    ensures { λ r. ⌜ Answers (readBody (keysIn keys secrets) keys top (lines (now (s .entry)))) r ⌝ }
+// The form that the number of the line `sheet` chooses. There is one.
+fn form_of(number: u64) -> Form
+    ensures { λ r. ⌜ r ≡ formOf number ⌝ }
 {
-    let program = read_commands(s, keys, top);
+    Form::one()
+}
+
+// The lines after the secrets, the first of which is the line top.
+fn read_body(s: &[u8], form: Form, keys: u64, secrets: [KeySlot; KEY_CAPACITY], top: u32) -> Read
+    requires { ⌜ Fits form × (1 ≤ keys) × (keys ≤ form .keys) × (top + length (now s) ≤ mostBytes + 1) ⌝ }
+    ensures { λ r. ⌜ Answers (readBody form (keysIn keys secrets) keys top (lines (now (s .entry)))) r ⌝ }
+{
+    let program = read_commands(s, form, keys, top);
     let phase = program.phase;
     match phase {
         Phase::Refused(number, line) => refuse(number, line),
         Phase::Got(line, a) => {
             let t = &s[a..];
-            let queue = read_messages(t, keys, line);
+            let queue = read_messages(t, form, keys, line);
             let phase = queue.phase;
             match phase {
                 Phase::Refused(number, line) => refuse(number, line),
                 Phase::Got(line, b) => {
-                    let last = read_turns(&t[b..], line);
+                    let last = read_turns(&t[b..], form, line);
                     let phase = last.phase;
                     match phase {
                         Phase::Refused(number, line) => refuse(number, line),
@@ -111,8 +119,9 @@ fn read_lines(s: &[u8]) -> Read
     match phase {
         Phase::Refused(number, line) => refuse(number, line),
         Phase::Got(line, a) => {
+            let form = form_of(first.value);
             let t = &s[a..];
-            let second = number_line(t, b"keys=", MOST_KEYS, line);
+            let second = number_line(t, b"keys=", form.keys, line);
             let phase = second.phase;
             match phase {
                 Phase::Refused(number, line) => refuse(number, line),
@@ -125,7 +134,7 @@ fn read_lines(s: &[u8]) -> Read
                         Phase::Refused(number, line) => refuse(number, line),
                         Phase::Got(top, d) => {
                             let secrets = dummies.slots;
-                            read_body(&u[d..], keys, secrets, top)
+                            read_body(&u[d..], form, keys, secrets, top)
                         }
                     }
                 }

@@ -1,4 +1,4 @@
--- Laws of the line `turns`: its name, its letters, and the end of the text after it.
+-- Laws of the line `turns` of a sheet of the form f: its name, its letters, and the end of the text after it.
 use mathlib.Core.Path.{_≡_, refl, sym, ap, _∙_}
 use mathlib.Core.Bool.{Bool, true, false, cond}
 use mathlib.Core.List.{List, [], _∷_, _++_, map, append-nil, append-assoc}
@@ -6,9 +6,9 @@ use Prim.Native.Nat.{ℕ, _+_, _<_, _≤_}
 use native.Mathlib.Omega.{arith}
 use lib.{Dec.eqb, ListN.length, ListN.take, ListN.drop, ListN.set, ListN.getD}
 use borrow.Author.Tests.{eq-eqb, ne-eqb, lt-leb, le-leb}
-use Rattle.model.specs.{Limits.mostLetters, Parsed.Parsed, Parsed.got, Parsed.refused, Parsed._>>=_, Text.bytes, Text.find, Text.lineFeed, Phase.Phase, Phase.one}
-use Rattle.model.specs.{Turns.letterL, Turns.letterH, Turns.letter, Turns.letters, Turns.turnsLine, Turns.nothingAfter, Turns.readTurns, Stored.levelOf}
-use Rattle.model.specs.declared.Level.{Level}
+use Rattle.model.specs.{Parsed.Parsed, Parsed.got, Parsed.refused, Parsed._>>=_, Text.bytes, Text.find, Text.lineFeed, Phase.Phase, Phase.one}
+use Rattle.model.specs.{Turns.letter, Turns.letters, Turns.turnsLine, Turns.nothingAfter, Turns.readTurns, Stored.levelOf, Form.Fits}
+use Rattle.model.specs.declared.{Form.Form, Level.Level}
 use Rattle.read_text.specs.Text.{free, Word}
 use Rattle.read_text.proofs.{Laws.uncons, Laws.done, Lines.lines-none, Lines.lines-more}
 use Rattle.read_line.specs.Phase.{Reads}
@@ -31,77 +31,78 @@ pub onto-none : (r : Parsed (List Level)) → onto [] r ≡ r
 onto-none (got ls) = refl
 onto-none (refused n) = refl
 
-module _ (s : List ℕ) (i : ℕ) (copy : List ℕ) where
+module _ (f : Form) (s : List ℕ) (i : ℕ) (copy : List ℕ) where
   abbrev copied : List Level
   copied = map levelOf (take i copy)
 
-  pub letters-end : length s ≤ i → onto copied (letters (drop i s)) ≡ got copied
+  pub letters-end : length s ≤ i → onto copied (letters f (drop i s)) ≡ got copied
   unfolding letters
   letters-end h = rw (done s i h) (ap got (append-nil copied))
 
   module _ (h : i < length s) where
-    pub letters-bad : letter (getD s i 0) ≡ refused 9 → onto copied (letters (drop i s)) ≡ refused 9
+    pub letters-bad : letter f (getD s i 0) ≡ refused 9 → onto copied (letters f (drop i s)) ≡ refused 9
     unfolding letters
     letters-bad e = rw (uncons s i h, e)
 
-    pub letters-next : i < length copy → letter (getD s i 0) ≡ got (levelOf (getD s i 0))
-        → onto copied (letters (drop i s)) ≡ onto (map levelOf (take (i + 1) (set copy i (getD s i 0)))) (letters (drop (i + 1) s))
+    pub letters-next : i < length copy → letter f (getD s i 0) ≡ got (levelOf (getD s i 0))
+        → onto copied (letters f (drop i s)) ≡ onto (map levelOf (take (i + 1) (set copy i (getD s i 0)))) (letters f (drop (i + 1) s))
     unfolding letters
-    letters-next l e = rw (uncons s i h, e, map-more levelOf i copy (getD s i 0) l) (go (letters (drop (i + 1) s)))
+    letters-next l e = rw (uncons s i h, e, map-more levelOf i copy (getD s i 0) l) (go (letters f (drop (i + 1) s)))
       where
         go : (r : Parsed (List Level)) → onto copied (r >>= (λ ls. got (levelOf (getD s i 0) ∷ ls))) ≡ onto (copied ++ (levelOf (getD s i 0) ∷ [])) r
         go (got ls) = ap got (sym (append-assoc copied (levelOf (getD s i 0) ∷ []) ls))
         go (refused n) = refl
 
-module _ (b : ℕ) where
-  pub letter-low : b ≡ letterL → LetterKnown b true
+-- a byte by the form's two letters, of which the low one is that of `levelOf`
+module _ {f : Form} (fits : Fits f) (b : ℕ) where
+  pub letter-low : b ≡ f .low → LetterKnown f b true
   unfolding letter
-  letter-low e = record { read = rw (eq-eqb _ _ e) }
+  letter-low e = record { read = rw (eq-eqb _ _ e, eq-eqb _ _ (e ∙ fits .low)) }
 
-  pub letter-high : (b ≡ letterL → ⊥) → LetterKnown b (eqb b letterH)
+  pub letter-high : (b ≡ f .low → ⊥) → LetterKnown f b (eqb b (f .high))
   unfolding letter
-  letter-high n = record { read = rw (ne-eqb _ _ n) }
+  letter-high n = record { read = rw (ne-eqb _ _ n, ne-eqb _ _ (λ e. n (e ∙ sym (fits .low)))) }
 
-module _ {b : ℕ} {r : Bool} (h : LetterKnown b r) where
-  pub letter-is : r ≡ true → letter b ≡ got (levelOf b)
+module _ {f : Form} {b : ℕ} {r : Bool} (h : LetterKnown f b r) where
+  pub letter-is : r ≡ true → letter f b ≡ got (levelOf b)
   letter-is q = h .read ∙ ap (λ (x : Bool). cond x (got (levelOf b)) (refused 9)) q
 
-  pub letter-is-not : r ≡ false → letter b ≡ refused 9
+  pub letter-is-not : r ≡ false → letter f b ≡ refused 9
   letter-is-not q = h .read ∙ ap (λ (x : Bool). cond x (got (levelOf b)) (refused 9)) q
 
 -- ---- The line `turns`
 
-module _ (s : List ℕ) where
-  pub turns-long : mostLetters < length s → turnsLine s ≡ refused 8
+module _ (f : Form) (s : List ℕ) where
+  pub turns-long : f .letters < length s → turnsLine f s ≡ refused 8
   unfolding turnsLine
   turns-long h = rw (lt-leb _ _ h)
 
-  pub turns-none : length s ≡ 0 → turnsLine s ≡ refused 9
+  pub turns-none : length s ≡ 0 → turnsLine f s ≡ refused 9
   unfolding turnsLine
-  turns-none h = rw h
+  turns-none h = let l : length s ≤ f .letters = omega arith in rw (le-leb _ _ l, h)
 
-  pub turns-letters : length s ≤ mostLetters → (length s ≡ 0 → ⊥) → turnsLine s ≡ letters s
+  pub turns-letters : length s ≤ f .letters → (length s ≡ 0 → ⊥) → turnsLine f s ≡ letters f s
   unfolding turnsLine
   turns-letters h n = let l : 1 ≤ length s = omega arith in rw (le-leb _ _ h, le-leb _ _ l)
 
 -- ---- Nothing after the line `turns`: t is what is left of s from b on, and e the place of its first line feed
 
-abbrev pub theLine : ℕ → List (List ℕ) → Phase (List Level)
-theLine n ls = one (bytes "turns") turnsLine n ls
+abbrev pub theLine : Form → ℕ → List (List ℕ) → Phase (List Level)
+theLine f n ls = one (bytes "turns") (turnsLine f) n ls
 
-module _ {s : List ℕ} {first : ℕ} where
-  pub last-refused : {r n : ℕ} {x : List Level} → Reads theLine s first (Refused r n) x → Reads readTurns s first (Refused r n) x
+module _ (f : Form) {s : List ℕ} {first : ℕ} where
+  pub last-refused : {r n : ℕ} {x : List Level} → Reads (theLine f) s first (Refused r n) x → Reads (readTurns f) s first (Refused r n) x
   unfolding readTurns
   last-refused h = record { read = ap nothingAfter (h .read); ahead = tt }
 
-  module _ {n b : ℕ} {x : List Level} (h : Reads theLine s first (Got n b) x) (t : List ℕ) (d : t ≡ drop b s) (e : ℕ) (q : e ≡ find lineFeed t) where
-    pub last-more : e < length t → Reads readTurns s first (Refused 3 n) x
+  module _ {n b : ℕ} {x : List Level} (h : Reads (theLine f) s first (Got n b) x) (t : List ℕ) (d : t ≡ drop b s) (e : ℕ) (q : e ≡ find lineFeed t) where
+    pub last-more : e < length t → Reads (readTurns f) s first (Refused 3 n) x
     unfolding readTurns
     last-more l =
         let m : find lineFeed t < length t = omega arith in
         record { read = rw (← (h .read), ← d, lines-more t m); ahead = tt }
 
-    pub last-none : length t ≤ e → Reads readTurns s first (Got n b) x
+    pub last-none : length t ≤ e → Reads (readTurns f) s first (Got n b) x
     unfolding readTurns
     last-none l =
         let m : length t ≤ find lineFeed t = omega arith in

@@ -1,20 +1,21 @@
--- What the readers of the line `turns` answer: s is the text that one is given, and first the number of its first line.
+-- What the readers of the line `turns` answer: f is the form of the sheet, s the text that one is given, and first the number of its first line.
 use mathlib.Core.Path.{_≡_}
 use mathlib.Core.Bool.{Bool, cond}
 use mathlib.Core.List.{List, map}
 use Prim.Native.Nat.{ℕ, _≤_}
 use lib.ListN.{length, take}
 use Rattle.model.specs.{Parsed.got, Parsed.refused, Turns.letter, Turns.turnsLine, Turns.readTurns, Stored.levelOf}
+use Rattle.model.specs.declared.Form.{Form}
 use Rattle.read_line.specs.Phase.{Reads, checkedAs}
 use Rattle.read_turns.specs.declared.{Letters.Letters, Turns.Turns}
 
-pub record LetterKnown (b : ℕ) (r : Bool) : Type 0 where
-  pub read : letter b ≡ cond r (got (levelOf b)) (refused 9)
+pub record LetterKnown (f : Form) (b : ℕ) (r : Bool) : Type 0 where
+  pub read : letter f b ≡ cond r (got (levelOf b)) (refused 9)
 
-pub record LettersCopied (s : List ℕ) (r : Letters) : Type 0 where
-  pub read : checkedAs (r .checked) (map levelOf (take (r .count) (r .letters))) ≡ turnsLine s
+pub record LettersCopied (f : Form) (s : List ℕ) (r : Letters) : Type 0 where
+  pub read : checkedAs (r .checked) (map levelOf (take (r .count) (r .letters))) ≡ turnsLine f s
   pub few : r .count ≤ length (r .letters)
 
-pub record TurnsRead (s : List ℕ) (first : ℕ) (r : Turns) : Type 0 where
-  pub read : Reads readTurns s first (r .phase) (map levelOf (take (r .count) (r .letters)))
+pub record TurnsRead (f : Form) (s : List ℕ) (first : ℕ) (r : Turns) : Type 0 where
+  pub read : Reads (readTurns f) s first (r .phase) (map levelOf (take (r .count) (r .letters)))
   pub few : r .count ≤ length (r .letters)

@@ -1,6 +1,6 @@
 // The line `turns`, its letters tested and copied in one pass, and nothing after it.
+use model::Form;
 use model::LETTER_CAPACITY;
-use model::MOST_LETTERS;
 use read_line::Checked;
 use read_line::Found;
 use read_line::Phase;
@@ -8,6 +8,7 @@ use read_line::first_line;
 use read_text::find_byte;
 ghost use Prim.Native.Nat.{_+_, _<_};
 ghost use lib.ListN.{length};
+ghost use Rattle.model.specs.Form.{Fits};
 ghost use Rattle.read_turns.specs.Turns.{LetterKnown, LettersCopied, TurnsRead};
 
 // The first count letters of the array.
@@ -24,21 +25,23 @@ struct Letters {
     pub letters: [u8; LETTER_CAPACITY],
 }
 
-fn is_letter(b: u8) -> bool
-    ensures { λ r. ⌜ LetterKnown b r ⌝ }
+fn is_letter(b: u8, form: Form) -> bool
+    requires { ⌜ Fits form ⌝ }
+    ensures { λ r. ⌜ LetterKnown form b r ⌝ }
 {
-    if b == b'L' {
+    if b == form.low {
         return true;
     }
-    b == b'H'
+    b == form.high
 }
 
 // What follows `turns=`, copied as it is tested.
-fn copy_letters(s: &[u8]) -> Letters
-    ensures { λ r. ⌜ LettersCopied (now (s .entry)) r ⌝ }
+fn copy_letters(s: &[u8], form: Form) -> Letters
+    requires { ⌜ Fits form ⌝ }
+    ensures { λ r. ⌜ LettersCopied form (now (s .entry)) r ⌝ }
 {
     let mut letters = [0u8; LETTER_CAPACITY];
-    if MOST_LETTERS < s.len() {
+    if form.letters < s.len() {
         return Letters {
             checked: Checked::Refused(8),
             count: 0,
@@ -60,7 +63,7 @@ fn copy_letters(s: &[u8]) -> Letters
             break;
         }
         let b = s[i];
-        if !is_letter(b) {
+        if !is_letter(b, form) {
             checked = Checked::Refused(9);
             break;
         }
@@ -75,9 +78,9 @@ fn copy_letters(s: &[u8]) -> Letters
 }
 
 // The line `turns` at the start of s, and nothing after it.
-pub fn read_turns(s: &[u8], first: u32) -> Turns
-    requires { ⌜ first + length (now s) < 4294967296 ⌝ }
-    ensures { λ r. ⌜ TurnsRead (now (s .entry)) first r ⌝ }
+pub fn read_turns(s: &[u8], form: Form, first: u32) -> Turns
+    requires { ⌜ Fits form × (first + length (now s) < 4294967296) ⌝ }
+    ensures { λ r. ⌜ TurnsRead form (now (s .entry)) first r ⌝ }
 {
     match first_line(s, b"turns=") {
         Found::Other => Turns {
@@ -86,7 +89,7 @@ pub fn read_turns(s: &[u8], first: u32) -> Turns
             letters: [0u8; LETTER_CAPACITY],
         },
         Found::At(v, e) => {
-            let copied = copy_letters(&s[v..e]);
+            let copied = copy_letters(&s[v..e], form);
             let letters = copied.letters;
             let count = copied.count;
             let checked = copied.checked;

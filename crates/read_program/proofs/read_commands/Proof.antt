@@ -1,11 +1,11 @@
 -- The `do` lines that are left, added to those that the array holds, give what the whole phase gives.
-use Prim.Native.Nat.{_≤_, _+_, _-_}
+use Prim.Native.Nat.{ℕ, _≤_, _+_, _-_}
 use mathlib.Core.Path.{_≡_, _∙_, sym, ap, refl}
 use mathlib.Core.List.{[], map}
 use native.Mathlib.Omega.{arith}
 use borrow.Author.Needs.{needs}
 use lib.ListN.{length, length-set, take, drop}
-use Rattle.model.specs.{Limits.mostCommands, Text.bytes, Command.limits, Command.readCommand, Phase.oneMore, Stored.commandCapacity}
+use Rattle.model.specs.{Text.bytes, Command.limits, Command.readCommand, Phase.oneMore, Stored.commandCapacity}
 use Rattle.read_text.proofs.Laws.{rest}
 use Rattle.read_line.proofs.Laws.{Going, feed-inside, going-on, going-left, going-bad, going-bound, going-more, array-full, array-bad, array-ok}
 use Rattle.read_command.specs.Command.{lineAs}
@@ -14,12 +14,12 @@ use Rattle.read_program.proofs.read_commands.Statement.{statement}
 use Rattle.read_program.proofs.read_commands.Tie as tie
 
 abbrev Inv-loop : tie.InvT-loop
-Inv-loop s keys first commands₀ count₀ line₀ a₀ name commands count line a =
-    Going (bytes "do") (oneMore mostCommands (readCommand (limits keys mostCommands))) [] s first line a (map itself (take count commands))
-    × (count ≤ mostCommands) × (length commands ≡ commandCapacity)
+Inv-loop s form keys first commands₀ count₀ line₀ a₀ name commands count line a =
+    Going (bytes "do") (oneMore (form .commands) (readCommand (limits keys (form .commands)))) [] s first line a (map itself (take count commands))
+    × (count ≤ form .commands) × (length commands ≡ commandCapacity)
 
 abbrev μ-loop : tie.MeasureT-loop
-μ-loop s keys first commands₀ count₀ line₀ a₀ name commands count line a = length s - a
+μ-loop s form keys first commands₀ count₀ line₀ a₀ name commands count line a = length s - a
 
 -- the points of the code: the start, a turn's start, its first line, and the command in it
 abbrev startOf : tie.At-loop Inv-loop μ-loop → tie.Start Inv-loop μ-loop
@@ -32,10 +32,14 @@ abbrev lineOf : tie.After-v Inv-loop μ-loop → tie.After-first-line Inv-loop �
 lineOf c = c .before .before
 
 abbrev hereOf : tie.After-read-command Inv-loop μ-loop → tie.After-v Inv-loop μ-loop
-hereOf c = c .before .before .before .before
+hereOf c = c .before .before .before .before .before
 
 abbrev commandOf : tie.After-known-told3 Inv-loop μ-loop → tie.After-read-command Inv-loop μ-loop
 commandOf c = c .before .before .before
+
+-- the most commands that the form allows
+abbrev most : tie.At-loop Inv-loop μ-loop → ℕ
+most l = startOf l .args .form .commands
 
 remains : (l : tie.At-loop Inv-loop μ-loop) → let s = startOf l .args .s .now in take (length s - l .loop .a) (drop (l .loop .a) s) ≡ drop (l .loop .a) s
 remains l = rest (startOf l .args .s .now) (l .loop .a)
@@ -49,22 +53,22 @@ returns c =
     let f = c .before .before .before in
     let l = turnOf f in
     let g = going-left do-word (f .first-line .ensures) (l .loop .inv .0) (remains l) (c .before .enum-told .given .1) in
-    record { read = commands-none _ (l .loop .count) (l .loop .commands) g (omega arith) (c .if1 .taken); few = omega arith }
+    record { read = commands-none _ _ (l .loop .count) (l .loop .commands) g (omega arith) (c .if1 .taken); few = omega arith }
 
 returns-2 : tie.Need-returns-2 Inv-loop μ-loop
 returns-2 c =
     let f = c .before .before .before in
     let l = turnOf f in
     let g = going-left do-word (f .first-line .ensures) (l .loop .inv .0) (remains l) (c .before .enum-told .given .1) in
-    record { read = commands-some _ (l .loop .count) (l .loop .commands) g (omega arith) (c .if1 .left); few = omega arith }
+    record { read = commands-some _ _ (l .loop .count) (l .loop .commands) g (omega arith) (c .if1 .left); few = omega arith }
 
 returns-3 : tie.Need-returns-3 Inv-loop μ-loop
 returns-3 c =
-    let e = c .before .before in
+    let e = c .before .before .before in
     let f = lineOf e in
     let l = turnOf f in
-    let b = array-full itself mostCommands _ (l .loop .count) (l .loop .commands) _ (omega arith) (omega arith) in
-    record { read = commands-refused _ (going-bad do-word (f .first-line .ensures) (l .loop .inv .0) (remains l) (e .v .given .1) b); few = omega arith }
+    let b = array-full itself (most l) _ (l .loop .count) (l .loop .commands) _ (omega arith) (omega arith) in
+    record { read = commands-refused _ _ (going-bad do-word (f .first-line .ensures) (l .loop .inv .0) (remains l) (e .v .given .1) b); few = omega arith }
 
 returns-4 : tie.Need-returns-4 Inv-loop μ-loop
 returns-4 c =
@@ -73,8 +77,8 @@ returns-4 c =
     let f = lineOf e in
     let l = turnOf f in
     let r = sym (m .read-command .ensures) ∙ ap lineAs (c .before .r .given .1) in
-    let b = array-bad itself mostCommands _ (l .loop .count) (l .loop .commands) _ (omega arith) (omega arith) _ r in
-    record { read = commands-refused _ (going-bad do-word (f .first-line .ensures) (l .loop .inv .0) (remains l) (e .v .given .1) b); few = omega arith }
+    let b = array-bad itself (most l) _ (l .loop .count) (l .loop .commands) _ (omega arith) (omega arith) _ r in
+    record { read = commands-refused _ _ (going-bad do-word (f .first-line .ensures) (l .loop .inv .0) (remains l) (e .v .given .1) b); few = omega arith }
 
 loop-again : tie.Need-loop-again Inv-loop μ-loop
 loop-again c =
@@ -83,7 +87,7 @@ loop-again c =
     let f = lineOf e in
     let l = turnOf f in
     let r = sym (m .read-command .ensures) ∙ ap lineAs (c .before .c .given .1) in
-    let o = array-ok itself mostCommands _ (l .loop .count) (l .loop .commands) _ (omega arith) (omega arith) _ r in
+    let o = array-ok itself (most l) _ (l .loop .count) (l .loop .commands) _ (omega arith) (omega arith) _ r in
     (going-more do-word (f .first-line .ensures) (l .loop .inv .0) (remains l) (e .v .given .1) _ o, omega arith, simp length-set (l .loop .inv .2))
 
 pub read-commands-spec : {M : Type 1} → statement M
@@ -95,9 +99,9 @@ read-commands-spec =
     (λ c κs. search needs)
     (λ c. (going-on _ refl, omega arith, rw (c .no-commands .ensures) refl))
     (λ c. omega arith) (λ c. omega arith) (λ c. omega arith) (λ c. search needs) (λ c κs. search needs) (λ c. search needs) (λ c. search needs)
-    (λ c. let h = feed-inside (lineOf (c .before .before) .first-line .ensures) (c .before .before .v .given .1) in omega arith)
-    (λ c. let h = feed-inside (lineOf (c .before .before) .first-line .ensures) (c .before .before .v .given .1) in omega arith)
-    (λ c. let h = feed-inside (lineOf (c .before .before) .first-line .ensures) (c .before .before .v .given .1) in omega arith)
+    (λ c. let h = feed-inside (lineOf (c .before .before .before) .first-line .ensures) (c .before .before .before .v .given .1) in omega arith)
+    (λ c. let h = feed-inside (lineOf (c .before .before .before) .first-line .ensures) (c .before .before .before .v .given .1) in omega arith)
+    (λ c. let h = feed-inside (lineOf (c .before .before .before) .first-line .ensures) (c .before .before .before .v .given .1) in omega arith)
     (λ c κs. search needs) (λ c. search needs) (λ c. search needs) (λ c. omega arith) (λ c. omega arith) (λ c. omega arith)
     (λ c. let b = bound (hereOf (commandOf c)) in omega arith)
     (λ c. let b = bound (hereOf (commandOf c)) in omega arith)

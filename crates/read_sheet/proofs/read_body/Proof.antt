@@ -11,15 +11,22 @@ use Rattle.read_sheet.proofs.Laws.{answers, from, reached, bounded, sto
 use Rattle.read_sheet.proofs.read_body.Statement.{statement}
 use Rattle.read_sheet.proofs.read_body.Tie as tie
 
+-- the points of the code: the start, the commands, and the messages
+abbrev startOf : tie.After-phase2 → tie.Start
+startOf c = c .before .before .before .before
+
+abbrev commandsOf : tie.After-phase4 → tie.After-phase2
+commandsOf c = c .before .before .before .before .before
+
 -- what is left after the commands and after the messages, and the numbers of its lines
 abbrev body : tie.After-phase2 → List ℕ
-body c = c .before .before .before .before .args .s .now
+body c = startOf c .args .s .now
 
 abbrev rest₁ : tie.After-phase2 → List ℕ
 rest₁ c = from (c .phase2 .given .0 .1 .0) (body c)
 
 abbrev rest₂ : tie.After-phase4 → List ℕ
-rest₂ c = from (c .phase4 .given .0 .1 .0) (rest₁ (c .before .before .before .before .before))
+rest₂ c = from (c .phase4 .given .0 .1 .0) (rest₁ (commandsOf c))
 
 numbers₁ : (c : tie.After-phase2) → c .phase2 .given .0 .0 + length (rest₁ c) ≤ mostBytes + 1
 numbers₁ c =
@@ -28,7 +35,7 @@ numbers₁ c =
 
 numbers₂ : (c : tie.After-phase4) → c .phase4 .given .0 .0 + length (rest₂ c) ≤ mostBytes + 1
 numbers₂ c =
-    let m = c .before .before .before .before .before in
+    let m = commandsOf c in
     let b = bounded (c .before .before .read-messages .ensures .read) (c .phase4 .given .1) (rest (rest₁ m) (c .phase4 .given .0 .1 .0)) in
     omega (arith, numbers₁ m)
 
@@ -40,25 +47,25 @@ test-targets-requires : tie.Need-test-targets-requires
 test-targets-requires c κs =
     let u = c .before .before .before in
     let n = u .before .before .before .before .before in
-    let m = n .before .before .before .before .before in
-    let a = m .before .before .before .before in (
+    let m = commandsOf n in
+    let a = startOf m in (
       record { keys = room a; commands = m .before .before .read-commands .ensures .few; messages = n .before .before .read-messages .ensures .few; turns = u .before .before .read-turns .ensures .few },
-      omega (arith, a .pre .2),
+      omega (arith, a .pre .3),
     )
 
 returns-2 : tie.Need-returns-2
 returns-2 c =
     let m = c .before .before .before .before .before .before .before in
     answers
-    (stop-messages _ _ (m .before .before .read-commands .ensures .read) (m .phase2 .given .1) (rest (body m) _) (c .before .before .before .before .read-messages .ensures .read) (c .before .before .phase3 .given .1))
+    (stop-messages _ _ _ (m .before .before .read-commands .ensures .read) (m .phase2 .given .1) (rest (body m) _) (c .before .before .before .before .read-messages .ensures .read) (c .before .before .phase3 .given .1))
     (c .refuse2 .ensures)
 
 returns-3 : tie.Need-returns-3
 returns-3 c =
     let n = c .before .before .before .before .before .before .before in
-    let m = n .before .before .before .before .before in
+    let m = commandsOf n in
     answers
-    (stop-turns _ _ (m .before .before .read-commands .ensures .read) (m .phase2 .given .1) (rest (body m) _) (n .before .before .read-messages .ensures .read) (n .phase4 .given .1) (rest (rest₁ m) _)
+    (stop-turns _ _ _ (m .before .before .read-commands .ensures .read) (m .phase2 .given .1) (rest (body m) _) (n .before .before .read-messages .ensures .read) (n .phase4 .given .1) (rest (rest₁ m) _)
     (c .before .before .before .before .read-turns .ensures .read) (c .before .before .phase5 .given .1))
     (c .refuse3 .ensures)
 
@@ -67,11 +74,11 @@ unfolding jobOf
 returns-4 c =
     let u = c .before .before .before .before in
     let n = u .before .before .before .before .before in
-    let m = n .before .before .before .before .before in
+    let m = commandsOf n in
     let k = m .before .before .read-commands in
     let e = length-take-le (k .result .count) (k .result .commands) (k .ensures .few) in
     answers
-    (body-read _ _ (k .ensures .read) (m .phase2 .given .1) (rest (body m) _) (n .before .before .read-messages .ensures .read) (n .phase4 .given .1) (rest (rest₁ m) _)
+    (body-read _ _ _ (k .ensures .read) (m .phase2 .given .1) (rest (body m) _) (n .before .before .read-messages .ensures .read) (n .phase4 .given .1) (rest (rest₁ m) _)
     (u .before .before .read-turns .ensures .read) (u .enum-told .given .1) ∙ rw e)
     (c .test-targets .ensures)
 
@@ -83,15 +90,15 @@ read-body-spec =
     (λ c. reached (c .before .before .before .read-commands .ensures .read) (c .before .phase2 .given .1) .0)
     (λ c. reached (c .before .before .before .read-commands .ensures .read) (c .before .phase2 .given .1) .0)
     (λ c. search needs)
-    (λ c κs. let b = numbers₁ (c .before .before) in (omega arith, omega arith, omega arith))
+    (λ c κs. let m = c .before .before in let p = startOf m .pre in let b = numbers₁ m in (p .0, p .1, p .2, omega arith))
     (λ c. search needs) (λ c κs. search needs) (λ c. search needs)
     (λ c. reached (c .before .before .before .read-messages .ensures .read) (c .before .phase4 .given .1) .0)
     (λ c. reached (c .before .before .before .read-messages .ensures .read) (c .before .phase4 .given .1) .0)
     (λ c. search needs)
-    (λ c κs. let b = numbers₂ (c .before .before) in omega arith)
+    (λ c κs. let n = c .before .before in let b = numbers₂ n in (startOf (commandsOf n) .pre .0, omega arith))
     (λ c. search needs) (λ c κs. search needs) (λ c. search needs)
     test-targets-requires
-    (λ c. answers (stop-commands _ _ (c .before .before .before .before .read-commands .ensures .read) (c .before .before .phase .given .1)) (c .refuse .ensures))
+    (λ c. answers (stop-commands _ _ _ (c .before .before .before .before .read-commands .ensures .read) (c .before .before .phase .given .1)) (c .refuse .ensures))
     returns-2
     returns-3
     returns-4)

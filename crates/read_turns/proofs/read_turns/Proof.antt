@@ -34,7 +34,7 @@ readOf c = c .before .before
 read : (c : tie.After-enum-told2) →
     let k = copyOf c in
     let a = startOf (lineOf (hereOf k)) .args in
-    Reads theLine (a .s .now) (a .first) (Got (a .first + 1) (hereOf k .v .given .0 .1 .0 + 1)) (map levelOf (take (k .copy-letters .result .count) (k .copy-letters .result .letters)))
+    Reads (theLine (a .form)) (a .s .now) (a .first) (Got (a .first + 1) (hereOf k .v .given .0 .1 .0 + 1)) (map levelOf (take (k .copy-letters .result .count) (k .copy-letters .result .letters)))
 read c =
     let k = copyOf c in
     let e = hereOf k in
@@ -46,21 +46,21 @@ returns c =
     let p = readOf (c .before) in
     let e = hereOf (copyOf p) in
     let t = rest (startOf (lineOf e) .args .s .now) (e .v .given .0 .1 .0 + 1) in
-    record { read = last-more (read p) _ t _ (c .before .find-byte .ensures) (c .if1 .taken); few = copyOf p .copy-letters .ensures .few }
+    record { read = last-more _ (read p) _ t _ (c .before .find-byte .ensures) (c .if1 .taken); few = copyOf p .copy-letters .ensures .few }
 
 returns-3 : tie.Need-returns-3
 returns-3 c =
     let k = c .before .before .before .before in
     let e = hereOf k in
     let b = sym (k .copy-letters .ensures .read) ∙ ap (λ (p : Checked). checkedAs p (map levelOf (take (k .copy-letters .result .count) (k .copy-letters .result .letters)))) (c .before .checked .given .1) in
-    record { read = last-refused (one-bad turns-word (lineOf e .first-line .ensures) _ (e .v .given .1) b); few = k .copy-letters .ensures .few }
+    record { read = last-refused _ (one-bad turns-word (lineOf e .first-line .ensures) _ (e .v .given .1) b); few = k .copy-letters .ensures .few }
 
 returns-4 : tie.Need-returns-4
 returns-4 c =
     let p = readOf (c .before) in
     let e = hereOf (copyOf p) in
     let t = rest (startOf (lineOf e) .args .s .now) (e .v .given .0 .1 .0 + 1) in
-    record { read = last-none (read p) _ t _ (c .before .find-byte .ensures) (c .if1 .left); few = copyOf p .copy-letters .ensures .few }
+    record { read = last-none _ (read p) _ t _ (c .before .find-byte .ensures) (c .if1 .left); few = copyOf p .copy-letters .ensures .few }
 
 pub read-turns-spec : {M : Type 1} → statement M
 read-turns-spec =
@@ -79,6 +79,6 @@ read-turns-spec =
     returns
     (λ c. let h = read (readOf (c .before)) .ahead in omega arith)
     (λ c. let h = read (readOf (c .before)) .ahead in omega arith)
-    (λ c. record { read = last-refused (one-other turns-word (c .before .before .first-line .ensures) _ (c .enum-told .given .1)); few = omega arith })
+    (λ c. record { read = last-refused _ (one-other turns-word (c .before .before .first-line .ensures) _ (c .enum-told .given .1)); few = omega arith })
     returns-3
     returns-4)
