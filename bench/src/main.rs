@@ -8,6 +8,7 @@ use sheets::Sheets;
 use std::hint::black_box;
 use std::path::Path;
 use std::process::ExitCode;
+use timing::Row;
 
 /// The output memory that both are lent.
 const LENT: usize = 32_768;
@@ -45,17 +46,29 @@ fn main() -> ExitCode {
 }
 
 fn usage() -> String {
-    "usage: bench\n       bench archive|plain COUNT [all|long|short|largest]\n       bench sheets FOLDER"
+    "usage: bench\n       bench archive|plain COUNT [all|long|short|largest|LH|all L|random|runs|calls]\n       \
+     bench sheets FOLDER"
         .to_string()
 }
 
 fn compare_and_time() -> Result<(), String> {
-    let (long, short) = (sheets::long(), sheets::short());
-    compare(&long)?;
-    compare(&short)?;
-    compare(&sheets::largest())?;
+    let halves = [sheets::long(), sheets::short()];
+    let kinds = sheets::kinds();
+    for group in halves.iter().chain(&kinds).chain([&sheets::largest()]) {
+        compare(group)?;
+    }
     println!("archive and plain agree on all sheets");
-    print!("{}", timing::report(&long, &short));
+    let of_halves = [Row("all", &[0, 1]), Row("long", &[0]), Row("short", &[1])];
+    print!("{}", timing::report(&halves, &of_halves));
+    println!("long runs, by the kind of their turns:");
+    let of_kinds = [
+        Row("LH", &[0]),
+        Row("all L", &[1]),
+        Row("random", &[2]),
+        Row("runs", &[3]),
+        Row("calls", &[4]),
+    ];
+    print!("{}", timing::report(&kinds, &of_kinds));
     Ok(())
 }
 
@@ -80,7 +93,7 @@ fn run_one(side: Side, count: &str, name: &str) -> Result<(), String> {
         "long" => vec![sheets::long()],
         "short" => vec![sheets::short()],
         "largest" => vec![sheets::largest()],
-        _ => return Err(usage()),
+        kind => of_kind(kind)?,
     };
     let mut output = vec![0; LENT];
     for _ in 0..count {
@@ -93,6 +106,16 @@ fn run_one(side: Side, count: &str, name: &str) -> Result<(), String> {
     let bytes: usize = halves.iter().map(|half| half.bytes).sum();
     println!("{sheets} sheets {positions} positions {bytes} bytes");
     Ok(())
+}
+
+/// The long runs whose turns are of one kind.
+fn of_kind(name: &str) -> Result<Vec<Sheets>, String> {
+    let mut kinds = sheets::kinds();
+    kinds.retain(|kind| kind.name == name);
+    if kinds.is_empty() {
+        return Err(usage());
+    }
+    Ok(kinds)
 }
 
 /// One side, once over each sheet. The output memory is the caller's, so that clearing it is no part

@@ -1,12 +1,16 @@
 //! The sheets of the comparison: the same 500 every time.
 
-use reference::generate::{accepted, Rng, Shape};
-use reference::model::{LENT, LOWEST, MOST_COMMANDS, MOST_KEYS, MOST_MESSAGES, MOST_TURNS};
+use reference::generate::{accepted, accepted_job, sheet_of, Rng, Shape};
+use reference::model::{
+    Command, Job, Level, LENT, LOWEST, MOST_COMMANDS, MOST_KEYS, MOST_MESSAGES, MOST_TURNS,
+};
 use reference::run_sheet;
 
 const SEED: u64 = 2026;
 /// Half of the sheets are long, half short.
 const HALF: usize = 250;
+/// So many sheets have turns of each kind.
+const OF_A_KIND: usize = 50;
 /// A long run uses at least this many positions.
 const LONG_POSITIONS: u32 = 1_000;
 
@@ -83,6 +87,58 @@ pub fn largest() -> Sheets {
     let mut largest = Sheets::new("largest");
     largest.add(sheet.into_bytes(), positions);
     largest
+}
+
+/// Long runs by the kind of their turns: a letter that can be foretold costs a processor less than
+/// one that cannot, and calls cost more than other commands.
+pub fn kinds() -> Vec<Sheets> {
+    vec![
+        kind("LH", |_, job| {
+            job.turns = letters(|turn| turn % 2 == 0);
+        }),
+        kind("all L", |_, job| job.turns = letters(|_| true)),
+        kind("random", |rng, job| {
+            job.turns = letters(|_| rng.chance(1, 2));
+        }),
+        kind("runs", |rng, job| job.turns = runs(rng)),
+        kind("calls", |rng, job| {
+            job.turns = letters(|_| rng.chance(1, 2));
+            job.commands = vec![Command::Receive, Command::Send, Command::Jump(0)];
+        }),
+    ]
+}
+
+/// As many letters as there may be, each L or H.
+fn letters(mut low: impl FnMut(usize) -> bool) -> Vec<Level> {
+    let letter = |turn| if low(turn) { Level::Low } else { Level::High };
+    (0..MOST_TURNS).map(letter).collect()
+}
+
+/// Sheets whose jobs are changed so, and whose runs are long then too.
+fn kind(name: &'static str, change: fn(&mut Rng, &mut Job)) -> Sheets {
+    let mut rng = Rng::new(SEED + 2);
+    let mut sheets = Sheets::new(name);
+    while sheets.sheets.len() < OF_A_KIND {
+        let mut job = accepted_job(&mut rng, Shape::LongRun);
+        change(&mut rng, &mut job);
+        let sheet = sheet_of(&job);
+        let positions = positions(&sheet);
+        if positions >= LONG_POSITIONS {
+            sheets.add(sheet, positions);
+        }
+    }
+    sheets
+}
+
+/// Letters in long runs of one and the same.
+fn runs(rng: &mut Rng) -> Vec<Level> {
+    let mut turns = Vec::new();
+    while turns.len() < MOST_TURNS {
+        turns.extend(vec![Level::Low; rng.between(20, 60)]);
+        turns.extend(vec![Level::High; rng.between(20, 60)]);
+    }
+    turns.truncate(MOST_TURNS);
+    turns
 }
 
 /// The positions that a run uses.

@@ -9,31 +9,6 @@ const ROUNDS: usize = 41;
 /// Passes over the sheets in one measurement.
 const PASSES: usize = 4;
 
-/// The seconds that one side needs for one pass, in each round.
-struct Times {
-    long: Vec<f64>,
-    short: Vec<f64>,
-}
-
-impl Times {
-    fn new() -> Times {
-        Times {
-            long: Vec::new(),
-            short: Vec::new(),
-        }
-    }
-
-    fn measure(&mut self, side: Side, long: &Sheets, short: &Sheets) {
-        self.long.push(seconds(side, long));
-        self.short.push(seconds(side, short));
-    }
-
-    fn all(&self) -> Vec<f64> {
-        let pairs = self.long.iter().zip(&self.short);
-        pairs.map(|(long, short)| long + short).collect()
-    }
-}
-
 fn seconds(side: Side, half: &Sheets) -> f64 {
     let mut output = vec![0; LENT];
     let start = Instant::now();
@@ -43,31 +18,46 @@ fn seconds(side: Side, half: &Sheets) -> f64 {
     start.elapsed().as_secs_f64() / PASSES as f64
 }
 
-/// Measures both sides and says what came of it.
-pub fn report(long: &Sheets, short: &Sheets) -> String {
-    let (mut ours, mut theirs) = (Times::new(), Times::new());
+/// What a table says of some groups of sheets together: its name, and the places of the groups.
+pub struct Row(pub &'static str, pub &'static [usize]);
+
+/// Measures both sides on each group and says what came of it, row by row.
+pub fn report(groups: &[Sheets], table: &[Row]) -> String {
+    let (mut ours, mut theirs) = (Vec::new(), Vec::new());
     for round in 0..ROUNDS {
+        let measure =
+            |side| -> Vec<f64> { groups.iter().map(|group| seconds(side, group)).collect() };
         if round % 2 == 0 {
-            ours.measure(archive, long, short);
-            theirs.measure(plain, long, short);
+            ours.push(measure(archive));
+            theirs.push(measure(plain));
         } else {
-            theirs.measure(plain, long, short);
-            ours.measure(archive, long, short);
+            theirs.push(measure(plain));
+            ours.push(measure(archive));
         }
     }
-    let (longs, shorts) = (long.sheets.len(), short.sheets.len());
-    [
-        "microseconds per sheet:      archive      plain  archive/plain\n".to_string(),
-        rows("all", longs + shorts, &ours.all(), &theirs.all()),
-        rows("long", longs, &ours.long, &theirs.long),
-        rows("short", shorts, &ours.short, &theirs.short),
-    ]
-    .concat()
+    let mut said = "microseconds per sheet:      archive      plain  archive/plain\n".to_string();
+    for Row(name, places) in table {
+        let sheets = places.iter().map(|&place| groups[place].sheets.len()).sum();
+        said += &rows(
+            name,
+            sheets,
+            &summed(&ours, places),
+            &summed(&theirs, places),
+        );
+    }
+    said
+}
+
+/// The seconds of these groups together, from the quickest round to the slowest.
+fn summed(rounds: &[Vec<f64>], places: &[usize]) -> Vec<f64> {
+    let sum = |round: &Vec<f64>| places.iter().map(|&place| round[place]).sum();
+    let mut times: Vec<f64> = rounds.iter().map(sum).collect();
+    times.sort_by(f64::total_cmp);
+    times
 }
 
 /// The best round and the middle one of each side.
 fn rows(name: &str, sheets: usize, ours: &[f64], theirs: &[f64]) -> String {
-    let (ours, theirs) = (sorted(ours), sorted(theirs));
     let row = |what: &str, place: usize| {
         let (ours, theirs) = (ours[place], theirs[place]);
         let each = |seconds: f64| seconds * 1e6 / sheets as f64;
@@ -75,10 +65,4 @@ fn rows(name: &str, sheets: usize, ours: &[f64], theirs: &[f64]) -> String {
         format!("{sheets:>4} {name:<6} {what:<10} {our:>12.3} {their:>10.3} {ratio:>14.3}\n")
     };
     row("best", 0) + &row("median", ROUNDS / 2)
-}
-
-fn sorted(times: &[f64]) -> Vec<f64> {
-    let mut times = times.to_vec();
-    times.sort_by(f64::total_cmp);
-    times
 }

@@ -1,141 +1,253 @@
 -- The counts of a run are those of its letters, its lines and its messages, and what it sends fits the memory.
 use Prim.Native.Nat.{ℕ, suc, _+_, _*_, _-_, _≤_, zero-le, suc-le-suc}
-use mathlib.Core.Path.{_≡_, refl, sym, _∙_, ap, subst⁻¹}
-use mathlib.Core.Bool.{Bool, true, false}
-use mathlib.Core.List.{List, [], _∷_}
+use mathlib.Core.Path.{_≡_, refl, sym, _∙_, ap, subst, subst⁻¹}
+use mathlib.Core.Bool.{Bool, true, false, cond}
+use mathlib.Core.List.{List, [], _∷_, _++_}
 use lib.ListN.{length, take, length-append}
 use borrow.Author.Tests.{ltb-false}
-use native.Mathlib.{Omega.arith, Nat.zero-add}
-use Rattle.model.specs.{Step.callOf, Job.Job, State.Sent, State.Common, State.State, State.fieldsOf, State.command, State.stopped, State.process, Run.Outcome}
-use Rattle.model.specs.{Run.share, Run.counted, Run.lead, Run.follow, Run.turn, Run.ended, Run.settle, Run.run, Run.initial, Run.runJob, Message.takes}
-use Rattle.model.specs.{Message.receive, Message.columns, Message.send, Line.lineLength, Verdict.written, Verdict.short, Verdict.noRoom, Verdict.verdictBy}
-use Rattle.model.specs.{Verdict.verdict, Counted.lows, Counted.Counted}
-use Rattle.model.specs.Data.{Entry, Key, Command, Call, Neither, Receives, Sends, Level, Low, High, Ending, Stopped, LettersUsed, NoRoom}
-use Rattle.model.proofs.{Accepted.every-snoc, Line.Lined, Line.bytes-length}
-
--- What holds of the lines sent, with room bytes lent
-abbrev Fits : List Key → ℕ → List Sent → Type 0
-Fits ks room xs = Lined ks xs × (lineLength ks * length xs ≤ room)
-
--- What holds of a state on the way, of all message lines
-record Reached (ks : List Key) (room all : ℕ) (s : State) : Type 0 where
-  sent : Fits ks room (s .common .sent)
-  taken : s .common .taken + length (s .common .rest) ≤ all
-
--- What holds of a run's outcome
-record Honest (ks : List Key) (room all : ℕ) (x : Outcome) : Type 0 where
-  bytes : x .counts .bytes ≡ lineLength ks * length (x .lines)
-  sent : Fits ks room (x .lines)
-  taken : x .counts .taken ≤ all
-
--- and of an outcome that a run reaches from a state over the letters ls
-record From (ks : List Key) (room all : ℕ) (s : State) (ls : List Level) (x : Outcome) : Type 0 where
-  used : ℕ
-  within : used ≤ length ls
-  positions : x .counts .positions ≡ s .common .positions + used
-  steps : x .counts .steps ≡ s .common .steps + lows (take used ls)
-  honest : Honest ks room all x
+use native.Mathlib.{Omega.arith, Nat.zero-add, Nat.le-refl, Nat.mul-suc, Numerals.add-one, Numerals.one-add}
+use Rattle.model.specs.{Step.callOf, Step.callsBy, Step.does, Job.Job, State.Process, State.Processes, State.Incoming, State.State, State.fieldsOf, State.step, State.command}
+use Rattle.model.specs.{State.stopped, State.refill, State.Role, State.leads, State.follows, State.role, State.leader, State.at, State.put, State.takenOf, State.takes}
+use Rattle.model.specs.{State.sends, State.stepsBy, State.ticked, State.process, Run.Outcome, Run.share, Run.lead, Run.followed, Run.follow, Run.moved, Run.turn, Run.ended}
+use Rattle.model.specs.{Run.settle, Run.run, Run.initial, Run.fresh, Run.runJob, Message.received, Message.receive, Message.columns, Message.lineNow, Message.send, Line.lineLength}
+use Rattle.model.specs.{Verdict.short, Verdict.lacking, Verdict.noRoom, Verdict.verdictBy, Verdict.verdict, Verdict.idles, Counted.lowsBy, Counted.lows, Counted.Counted}
+use Rattle.model.specs.Data.{Entry, Key, Command, Call, Neither, Receives, Sends, Level, Low, High, Ending, Stopped, LettersUsed, NoRoom, Clock}
+use Rattle.model.proofs.{Accepted.every-snoc, Levels.Changed, Levels.same, Levels.other, Levels.changed, Levels.at-each, Turn.clock-kept, Turn.turn-clock, Line.Lined, Line.bytes-length}
 
 columns-length : (i : ℕ) (ks : List Key) (f : Level → List Entry) → length (columns i ks f) ≡ length ks
 unfolding columns
 columns-length i [] f = refl
 columns-length i (k ∷ ks) f = ap suc (columns-length (suc i) ks f)
 
-module _ (ks : List Key) (room all : ℕ) where
-  -- what a call of the low execution leaves as it was
-  record Kept (c d : Common) : Type 0 where
-    positions : d .positions ≡ c .positions
-    steps : d .steps ≡ c .steps
-    lines : d .taken + length (d .rest) ≡ c .taken + length (c .rest)
+-- the calls that an execution has made
+abbrev callsAt : Level → State → ℕ
+callsAt l s = process l s .execution .calls
 
-  takes-keeps : (xs : List (List Entry)) (c : Common) → c .rest ≡ xs → Kept c (takes xs c)
+-- ---- What holds of a state on the way, with so many bytes lent, of all message lines
+
+pub record Reached (ks : List Key) (lent all : ℕ) (s : State) : Type 0 where
+  pub lined : Lined ks (s .outgoing .sent)
+  pub bytes : s .outgoing .bytes ≡ lineLength ks * length (s .outgoing .sent)
+  pub room : s .outgoing .bytes ≤ lent
+  pub taken : s .incoming .taken + length (s .incoming .rest) ≤ all
+  pub sent : length (s .outgoing .sent) ≤ s .clock .positions
+  pub steps : s .clock .steps ≤ s .clock .positions
+  pub calls : (l : Level) → callsAt l s ≤ s .clock .positions
+
+module _ (ks : List Key) (lent all : ℕ) where
+  -- what a turn makes of it before the clock goes on
+  record Moved (s t : State) : Type 0 where
+    lined : Lined ks (t .outgoing .sent)
+    bytes : t .outgoing .bytes ≡ lineLength ks * length (t .outgoing .sent)
+    room : t .outgoing .bytes ≤ lent
+    taken : t .incoming .taken + length (t .incoming .rest) ≤ all
+    sent : length (t .outgoing .sent) ≤ length (s .outgoing .sent) + 1
+    calls : (l : Level) → callsAt l t ≤ callsAt l s + 1
+
+  -- where nothing changed
+  unmoved : (s : State) → Reached ks lent all s → Moved s s
+  unmoved s h = record { lined = h .lined; bytes = h .bytes; room = h .room; taken = h .taken; sent = omega arith; calls = λ l. omega arith }
+
+  takes-lines : (i : Incoming) → takes i .taken + length (takes i .rest) ≡ i .taken + length (i .rest)
   unfolding takes
-  takes-keeps [] c e = record { positions = refl; steps = refl; lines = refl }
-  takes-keeps (x ∷ xs) c e = record { positions = refl; steps = refl; lines = omega (arith, ap length e) }
+  takes-lines i = go (i .rest) (i .taken)
+    where
+      go : (xs : List (List Entry)) (n : ℕ) → takenOf xs n .taken + length (takenOf xs n .rest) ≡ n + length xs
+      go [] n = refl
+      go (x ∷ xs) n = omega arith
 
-  share-keeps : (k : Call) (s : State) → Kept (s .common) (share k ks s .common)
-  unfolding share receive send
-  share-keeps Neither s = record { positions = refl; steps = refl; lines = refl }
-  share-keeps Receives s = takes-keeps (s .common .rest) (s .common) refl
-  share-keeps Sends s = record { positions = refl; steps = refl; lines = refl }
+  -- a call of the leader: what it does to the message and the output counts no call yet
+  shared-calls : (k : Call) (s : State) (l : Level) → callsAt l (share k ks s) ≡ callsAt l s
+  unfolding share receive refill send
+  shared-calls Neither s l = refl
+  shared-calls Receives s l = ap (λ (p : Process). p .execution .calls) (at-each (λ m. refill (received ks (s .incoming .rest) m)) l (s .processes))
+  shared-calls Sends s l = refl
 
-  takes-sent : (xs : List (List Entry)) (c : Common) → takes xs c .sent ≡ c .sent
-  unfolding takes
-  takes-sent [] c = refl
-  takes-sent (x ∷ xs) c = refl
+  shared : (k : Call) (s : State) → short k (lent - s .outgoing .bytes) (lineLength ks) ≡ false → Reached ks lent all s → Moved s (share k ks s)
+  unfolding share receive refill send sends short lineNow
+  shared Neither s e h = unmoved s h
+  shared Receives s e h =
+      record {
+        lined = h .lined;
+        bytes = h .bytes;
+        room = h .room;
+        taken = omega (arith, h .taken, takes-lines (s .incoming));
+        sent = omega arith;
+        calls = λ l. omega (arith, shared-calls Receives s l);
+      }
+  shared Sends s e h =
+      let fits : lineLength ks ≤ lent - s .outgoing .bytes = ltb-false _ _ e in
+      let lines = s .outgoing .sent in
+      let line = lineNow ks s in
+      let one-more : length (lines ++ (line ∷ [])) ≡ suc (length lines) = length-append lines (line ∷ []) ∙ add-one (length lines) in
+      record {
+        lined = every-snoc _ lines line (h .lined) (columns-length 0 ks (fieldsOf s));
+        bytes = ap (λ (n : ℕ). n + lineLength ks) (h .bytes) ∙ sym (mul-suc (lineLength ks) (length lines)) ∙ ap (λ (n : ℕ). lineLength ks * n) (sym one-more);
+        room = omega (arith, h .room);
+        taken = h .taken;
+        sent = omega arith;
+        calls = λ l. omega arith;
+      }
 
-  share-fits : (k : Call) (s : State) → short k (room - written ks s) (lineLength ks) ≡ false → Fits ks room (s .common .sent) → Fits ks room (share k ks s .common .sent)
-  unfolding share receive send short written
-  share-fits Neither s e h = h
-  share-fits Receives s e h = subst⁻¹ (Fits ks room) (takes-sent (s .common .rest) (s .common)) h
-  share-fits Sends s e h =
-      let l : lineLength ks ≤ room - lineLength ks * length (s .common .sent) = ltb-false _ _ e in
-      let line : Sent = record { position = s .common .positions; columns = columns 0 ks (fieldsOf s) } in (
-        every-snoc _ (s .common .sent) line (h .0) (columns-length 0 ks (fieldsOf s)),
-        subst⁻¹ (λ (n : ℕ). lineLength ks * n ≤ room) (length-append (s .common .sent) (line ∷ [])) (omega (arith, h .1)),
-      )
+  -- a command makes at most one call
+  one-call : (k : Call) → callsBy k ≤ 1
+  one-call Neither = zero-le
+  one-call Receives = le-refl 1
+  one-call Sends = le-refl 1
 
-  ended-from : (e : Ending) (s : State) (ls : List Level) → Reached ks room all s → From ks room all s ls (ended ks e s)
-  unfolding ended lows written
+  step-calls : (n : ℕ) (c : Command) (p : Process) → step n c p .execution .calls ≤ p .execution .calls + 1
+  unfolding step does
+  step-calls n c p = omega (arith, one-call (callOf (c .op)))
+
+  put-calls : {l m : Level} → Changed l m → (p : Process) (ps : Processes) (f : Level → ℕ) → p .execution .calls ≤ f l → at m ps .execution .calls ≤ f m → at m (put l p ps) .execution .calls ≤ f m
+  put-calls {l} {m} (same e g) p ps f new old = subst⁻¹ (λ (q : Process). q .execution .calls ≤ f m) (g p ps) (subst (λ (k : Level). p .execution .calls ≤ f k) e new)
+  put-calls {l} {m} (other g) p ps f new old = subst⁻¹ (λ (q : Process). q .execution .calls ≤ f m) (g p ps) old
+
+  module _ (cs : List Command) where
+    -- whether a level's turn finds room
+    abbrev Roomy : Role → State → Type 0
+    Roomy r s = lacking r (callOf (command cs (process leader s) .op)) (lent - s .outgoing .bytes) (lineLength ks) ≡ false
+
+    followed-calls : (first p : Process) → followed cs first p .execution .calls ≤ p .execution .calls + 1
+    unfolding followed
+    followed-calls first p = go (idles (stopped cs p) (callOf (command cs p .op)) (first .execution .calls) (p .execution .calls))
+      where
+        go : (b : Bool) → cond b p (step (length cs) (command cs p) p) .execution .calls ≤ p .execution .calls + 1
+        go true = omega arith
+        go false = step-calls (length cs) (command cs p) p
+
+    after-move : (r : Role) (l : Level) (s : State) → Roomy r s → Reached ks lent all s → Moved s (moved r ks cs l s)
+    unfolding lead follow
+    after-move leads l s e h =
+        let c = command cs (process leader s) in
+        let m = shared (callOf (c .op)) s e h in
+        let t = share (callOf (c .op)) ks s in
+        let own = process leader t in
+        record {
+          lined = m .lined;
+          bytes = m .bytes;
+          room = m .room;
+          taken = m .taken;
+          sent = m .sent;
+          calls = λ n. put-calls (changed leader n) (step (length cs) c own) (t .processes) (λ k. callsAt k s + 1) (omega (arith, step-calls (length cs) c own, shared-calls (callOf (c .op)) s leader)) (m .calls n);
+        }
+    after-move follows l s e h =
+        let first = process leader s in
+        let p = process l s in
+        record {
+          lined = h .lined;
+          bytes = h .bytes;
+          room = h .room;
+          taken = h .taken;
+          sent = omega arith;
+          calls = λ n. put-calls (changed l n) (followed cs first p) (s .processes) (λ k. callsAt k s + 1) (followed-calls first p) (omega arith);
+        }
+
+    one-step : (r : Role) → stepsBy r ≤ 1
+    one-step leads = le-refl 1
+    one-step follows = zero-le
+
+    pub turn-reached : (l : Level) (s : State) → Roomy (role l) s → Reached ks lent all s → Reached ks lent all (turn ks cs l s)
+    unfolding turn
+    turn-reached l s e h =
+        let m = after-move (role l) l s e h in
+        let c = ap (λ (t : Clock). t .positions) (clock-kept ks cs s (role l) l) in
+        let d = ap (λ (t : Clock). t .steps) (clock-kept ks cs s (role l) l) in
+        record {
+          lined = m .lined;
+          bytes = m .bytes;
+          room = m .room;
+          taken = m .taken;
+          sent = omega (arith, m .sent, h .sent, c);
+          steps = omega (arith, h .steps, one-step (role l), c, d);
+          calls = λ n. omega (arith, m .calls n, h .calls n, c);
+        }
+
+pub reached-first : (ks : List Key) (lent : ℕ) (ms : List (List Entry)) → Reached ks lent (length ms) (initial ks ms)
+unfolding initial fresh at
+reached-first ks lent ms =
+    record { lined = tt; bytes = omega arith; room = zero-le; taken = omega arith; sent = zero-le; steps = zero-le; calls = fresh-calls }
+  where
+    fresh-calls : (l : Level) → callsAt l (initial ks ms) ≤ 0
+    fresh-calls Low = zero-le
+    fresh-calls High = zero-le
+
+-- ---- Whole runs
+
+-- the low steps of a turn are the L letters that it uses
+low-steps : (r : Role) (n : ℕ) → lowsBy r n ≡ stepsBy r + n
+low-steps leads n = sym (one-add n)
+low-steps follows n = sym (zero-add n)
+
+-- What holds of an outcome that a run reaches from a state over the letters ls
+record From (ks : List Key) (lent all : ℕ) (s : State) (ls : List Level) (x : Outcome) : Type 0 where
+  used : ℕ
+  within : used ≤ length ls
+  positions : x .counts .positions ≡ s .clock .positions + used
+  steps : x .counts .steps ≡ s .clock .steps + lows (take used ls)
+  lined : Lined ks (x .lines)
+  bytes : x .counts .bytes ≡ lineLength ks * length (x .lines)
+  room : x .counts .bytes ≤ lent
+  taken : x .counts .taken ≤ all
+
+module _ (ks : List Key) (lent all : ℕ) where
+  ended-from : (e : Ending) (s : State) (ls : List Level) → Reached ks lent all s → From ks lent all s ls (ended e s)
+  unfolding ended lows
   ended-from e s ls h =
       record {
         used = 0;
         within = zero-le;
         positions = omega arith;
         steps = omega arith;
-        honest = record { bytes = refl; sent = h .sent; taken = omega (arith, h .taken) };
+        lined = h .lined;
+        bytes = h .bytes;
+        room = h .room;
+        taken = omega (arith, h .taken);
       }
 
   module _ (cs : List Command) where
-    turn-reached : (l : Level) (ls : List Level) (s : State) → noRoom ks cs room (l ∷ ls) s ≡ false → Reached ks room all s → Reached ks room all (turn ks cs l s)
-    unfolding turn lead follow counted noRoom
-    turn-reached Low ls s e h =
-        let k : Call = callOf (command cs (process Low s) .op) in
-        record { sent = share-fits k s e (h .sent); taken = omega (arith, h .taken, share-keeps k s .lines) }
-    turn-reached High ls s e h = record { sent = h .sent; taken = h .taken }
-
-    turn-from : (l : Level) (s : State) (ls : List Level) (x : Outcome) → From ks room all (turn ks cs l s) ls x → From ks room all s (l ∷ ls) x
-    unfolding turn lead follow counted lows
-    turn-from Low s ls x h =
-        let k = share-keeps (callOf (command cs (process Low s) .op)) s in
+    turn-from : (l : Level) (s : State) (ls : List Level) (x : Outcome) → From ks lent all (turn ks cs l s) ls x → From ks lent all s (l ∷ ls) x
+    unfolding lows
+    turn-from l s ls x h =
+        let c = turn-clock ks cs s l in
         record {
           used = suc (h .used);
           within = suc-le-suc (h .within);
-          positions = omega (arith, h .positions, k .positions);
-          steps = omega (arith, h .steps, k .steps);
-          honest = h .honest;
+          positions = omega (arith, h .positions, ap (λ (t : Clock). t .positions) c);
+          steps = omega (arith, h .steps, ap (λ (t : Clock). t .steps) c, low-steps (role l) (lows (take (h .used) ls)));
+          lined = h .lined;
+          bytes = h .bytes;
+          room = h .room;
+          taken = h .taken;
         }
-    turn-from High s ls x h =
-        record { used = suc (h .used); within = suc-le-suc (h .within); positions = omega (arith, h .positions); steps = omega (arith, h .steps); honest = h .honest }
 
     -- where the verdict is to go on, there is room
-    settle-from : (a b c : Bool) (s : State) (ls : List Level) (x : Outcome) → Reached ks room all s → (c ≡ false → From ks room all s ls x)
-        → From ks room all s ls (settle ks (verdictBy a b c) s x)
+    settle-from : (a b c : Bool) (s : State) (ls : List Level) (x : Outcome) → Reached ks lent all s → (c ≡ false → From ks lent all s ls x)
+        → From ks lent all s ls (settle (verdictBy a b c) s x)
     settle-from true b c s ls x h f = ended-from Stopped s ls h
     settle-from false true c s ls x h f = ended-from LettersUsed s ls h
     settle-from false false true s ls x h f = ended-from NoRoom s ls h
     settle-from false false false s ls x h f = f refl
 
-    run-from : (s : State) (ls : List Level) → Reached ks room all s → From ks room all s ls (run ks cs room s ls)
-    unfolding run verdict
-    run-from s [] h = settle-from (stopped cs (process Low s)) true false s [] _ h (λ e. ended-from LettersUsed s [] h)
+    run-from : (s : State) (ls : List Level) → Reached ks lent all s → From ks lent all s ls (run ks cs lent s ls)
+    unfolding run verdict noRoom
+    run-from s [] h = settle-from (stopped cs (process leader s)) true false s [] _ h (λ e. ended-from LettersUsed s [] h)
     run-from s (l ∷ ls) h =
-        settle-from (stopped cs (process Low s)) false (noRoom ks cs room (l ∷ ls) s) s (l ∷ ls) _ h
-        (λ e. turn-from l s ls _ (run-from (turn ks cs l s) ls (turn-reached l ls s e h)))
+        settle-from (stopped cs (process leader s)) false _ s (l ∷ ls) _ h
+        (λ e. turn-from l s ls _ (run-from (turn ks cs l s) ls (turn-reached ks lent all cs l s e h)))
 
 pub counts-of : (j : Job) (lent : ℕ) → Counted j lent
-unfolding runJob initial lineLength
+unfolding runJob lineLength initial
 counts-of j lent =
     let all : ℕ = length (j .messages) in
     let s : State = initial (j .keys) (j .messages) in
-    let f : From (j .keys) lent all s (j .turns) (runJob j lent) = run-from (j .keys) lent all (j .commands) s (j .turns) (record { sent = (tt, omega arith); taken = omega arith }) in
-    let h : Honest (j .keys) lent all (runJob j lent) = f .honest in
-    let u : f .used ≡ runJob j lent .counts .positions = omega (arith, f .positions) in
+    let f : From (j .keys) lent all s (j .turns) (runJob j lent) = run-from (j .keys) lent all (j .commands) s (j .turns) (reached-first (j .keys) lent (j .messages)) in
+    let u : f .used ≡ runJob j lent .counts .positions = sym (f .positions ∙ zero-add (f .used)) in
     record {
       positions = omega (arith, f .within, u);
       steps = f .steps ∙ zero-add _ ∙ ap (λ (n : ℕ). lows (take n (j .turns))) u;
-      bytes = h .bytes;
-      sent = bytes-length (j .keys) (runJob j lent .lines) (h .sent .0) ∙ sym (h .bytes);
-      room = omega (arith, h .bytes, h .sent .1);
-      taken = h .taken;
+      bytes = f .bytes;
+      sent = bytes-length (j .keys) (runJob j lent .lines) (f .lined) ∙ sym (f .bytes);
+      room = f .room;
+      taken = f .taken;
     }

@@ -37,10 +37,10 @@ unfolding Text.bytes Text.classOf Text.same Text.find Text.divide Text.split Tex
     Sheet.targets Sheet.readBody Sheet.readLines Sheet.forbiddenLine Sheet.closed Sheet.readSheet
     Arith.clamp Arith.sum Arith.difference Arith.product Arith.quotient
     Step.does Step.callOf
-    State.entry State.refill State.step State.command State.stopped State.at State.put State.each
-    Message.shown Message.fill Message.received Message.takes Message.receive Message.source Message.columns Message.send
-    Verdict.waits Verdict.written Verdict.short Verdict.idles Verdict.noRoom Verdict.verdict
-    Run.share Run.lead Run.followed Run.follow Run.counted Run.turn Run.ended Run.run Run.fresh Run.initial Run.runJob
+    State.entry State.refill State.step State.command State.stopped State.at State.put State.each State.takes State.sends
+    Message.shown Message.fill Message.received Message.receive Message.source Message.columns Message.lineNow Message.send
+    Verdict.waits Verdict.short Verdict.idles Verdict.noRoom Verdict.verdict
+    Run.share Run.lead Run.followed Run.follow Run.turn Run.ended Run.run Run.fresh Run.initial Run.runJob
     Line.lineLength Line.digits Line.sign Line.cell Line.cells Line.heading Line.lineBytes Line.bytesOf Line.memoryAfter
     Answer.numbersOf Answer.runSheet Answer.decimal Answer.natural Answer.spaced Answer.report Answer.printed
     Examples.result Examples.sheetA Examples.sheet8 Examples.list

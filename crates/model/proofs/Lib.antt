@@ -1,6 +1,9 @@
 -- The proofs about the model.
 pub mod Examples
+pub mod Variables
 pub mod Stored
+pub mod Levels
+pub mod Turn
 pub mod Forms
 pub mod Counted
 pub mod Lockstep

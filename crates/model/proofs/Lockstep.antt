@@ -1,42 +1,20 @@
 -- Two runs in lockstep: what all but one source see stays equal, turn by turn, to the end.
-use Prim.Native.Nat.{ℕ, suc, _+_, _<_, zero-le, suc-le-suc}
+use Prim.Native.Nat.{ℕ, suc, _+_, _-_, _<_, zero-le, suc-le-suc}
 use mathlib.Core.Path.{_≡_, refl, sym, _∙_, ap, ap₂, subst}
 use mathlib.Core.Logic.{_≢_}
 use mathlib.Core.List.{List, [], _∷_, _++_}
 use lib.{ListN.length, ListN.getD, ListN.drop, Seq.getD-drop}
 use native.Mathlib.Numerals.{one-add}
-use Rattle.model.specs.{Step.callOf, State.Process, State.Processes, State.Sent, State.Common, State.State, State.fieldsOf, State.refill, State.step, State.command}
-use Rattle.model.specs.{State.at, State.put, State.each, State.process, State.withProcess, Run.Outcome, Run.share, Run.counted, Run.lead, Run.followed, Run.follow}
-use Rattle.model.specs.{Run.turn, Run.ended, Run.settle, Run.run, Run.initial, Message.shown, Message.source, Message.fill, Message.takes, Message.received}
-use Rattle.model.specs.{Message.receive, Message.columns, Message.send, Verdict.written, Verdict.noRoom, Verdict.verdict}
-use Rattle.model.specs.Data.{Entry, Absent, Key, Open, Secret, Command, Call, Neither, Receives, Sends, Level, Low, High, Ending, LettersUsed, Verdict, GoesOn}
-use Rattle.model.specs.Data.{Ends}
+use Rattle.model.specs.{Step.callOf, State.Process, State.Processes, State.Sent, State.Incoming, State.Outgoing, State.State, State.fieldsOf, State.refill, State.step}
+use Rattle.model.specs.{State.command, State.Role, State.leads, State.follows, State.role, State.leader, State.takenOf, State.takes}
+use Rattle.model.specs.{State.sends, State.ticked, State.process, State.withProcess, Run.Outcome, Run.share, Run.counted, Run.lead, Run.followed, Run.follow, Run.moved}
+use Rattle.model.specs.{Run.turn, Run.ended, Run.settle, Run.run, Run.initial, Message.shown, Message.source, Message.fill, Message.received, Message.receive}
+use Rattle.model.specs.{Message.columns, Message.lineNow, Message.send, Line.lineLength, Verdict.Verdict, Verdict.GoesOn, Verdict.Ends, Verdict.lacking, Verdict.noRoom}
+use Rattle.model.specs.Verdict.{verdict}
+use Rattle.model.proofs.Levels.{Changed, same, other, changed, at-each}
+use Rattle.model.specs.Data.{Entry, Absent, Key, Open, Secret, Command, Call, Neither, Receives, Sends, Level, Low, High, Ending, LettersUsed, Clock}
 
--- ---- The laws of levels: all that depends on how many there are
-
-abbrev isLow : Level → Type 0
-isLow Low = Unit {0}
-isLow High = ⊥
-
-pub low≢high : Low ≢ High
-low≢high e = subst isLow e tt
-
--- the process of level m after a change of level l: the new one where they are one level, else as before
-pub data Changed (l m : Level) : Type 0 where
-  same : l ≡ m → ((p : Process) (ps : Processes) → at m (put l p ps) ≡ p) → Changed l m
-  other : ((p : Process) (ps : Processes) → at m (put l p ps) ≡ at m ps) → Changed l m
-
-changed : (l m : Level) → Changed l m
-unfolding at put
-changed Low Low = same refl (λ p ps. refl)
-changed Low High = other (λ p ps. refl)
-changed High Low = other (λ p ps. refl)
-changed High High = same refl (λ p ps. refl)
-
-at-each : (f : Level → Process → Process) (l : Level) (ps : Processes) → at l (each f ps) ≡ f l (at l ps)
-unfolding at each
-at-each f Low ps = refl
-at-each f High ps = refl
+-- ---- What an execution is shown
 
 -- an execution other than o's is shown the same of two entries that are equal unless o owns their key
 shown-alike : (o : Level) → Low ≢ o → (l : Level) → l ≢ o → (k : Key) {e f : Entry} → (source k ≢ o → e ≡ f) → shown l k e ≡ shown l k f
@@ -71,16 +49,19 @@ pub data SentLike (o : Level) (ks : List Key) : List Sent → List Sent → Type
   none : SentLike o ks [] []
   more : {x y : Sent} {xs ys : List Sent} → LinesAgree o ks x y → SentLike o ks xs ys → SentLike o ks (x ∷ xs) (y ∷ ys)
 
-pub record CommonLike (o : Level) (ks : List Key) (s t : Common) : Type 0 where
-  pub rest : RestLike o ks (s .rest) (t .rest)
-  pub taken : s .taken ≡ t .taken
-  pub sent : SentLike o ks (s .sent) (t .sent)
-  pub positions : s .positions ≡ t .positions
-  pub steps : s .steps ≡ t .steps
+pub record IncomingLike (o : Level) (ks : List Key) (a b : Incoming) : Type 0 where
+  pub rest : RestLike o ks (a .rest) (b .rest)
+  pub taken : a .taken ≡ b .taken
+
+pub record OutgoingLike (o : Level) (ks : List Key) (a b : Outgoing) : Type 0 where
+  pub sent : SentLike o ks (a .sent) (b .sent)
+  pub bytes : a .bytes ≡ b .bytes
 
 pub record Like (o : Level) (ks : List Key) (s t : State) : Type 0 where
   pub processes : (l : Level) → l ≢ o → process l s ≡ process l t
-  pub common : CommonLike o ks (s .common) (t .common)
+  pub incoming : IncomingLike o ks (s .incoming) (t .incoming)
+  pub outgoing : OutgoingLike o ks (s .outgoing) (t .outgoing)
+  pub clock : s .clock ≡ t .clock
 
 pub record Same (o : Level) (ks : List Key) (x y : Outcome) : Type 0 where
   pub ending : x .ending ≡ y .ending
@@ -92,10 +73,6 @@ pub record Same (o : Level) (ks : List Key) (x y : Outcome) : Type 0 where
 sent-snoc : (o : Level) (ks : List Key) {xs ys : List Sent} {x y : Sent} → SentLike o ks xs ys → LinesAgree o ks x y → SentLike o ks (xs ++ (x ∷ [])) (ys ++ (y ∷ []))
 sent-snoc o ks none h = more h none
 sent-snoc o ks (more g r) h = more g (sent-snoc o ks r h)
-
-sent-count : (o : Level) (ks : List Key) {xs ys : List Sent} → SentLike o ks xs ys → length xs ≡ length ys
-sent-count o ks none = refl
-sent-count o ks (more g r) = ap suc (sent-count o ks r)
 
 -- the part of two lines from key 1 on
 tail-alike : (o : Level) (k : Key) (ks : List Key) (a b : List Entry) → LineLike o (k ∷ ks) a b → LineLike o ks (drop 1 a) (drop 1 b)
@@ -124,27 +101,32 @@ module _ (o : Level) (hid : Low ≢ o) (ks : List Key) where
   received-alike (x ∷ xs) [] r l lo = absurd r
   received-alike (x ∷ xs) (y ∷ ys) r l lo = fill-alike o hid l lo ks x y (r .0)
 
-  takes-alike : (xs ys : List (List Entry)) (c d : Common) → RestLike o ks xs ys → CommonLike o ks c d → CommonLike o ks (takes xs c) (takes ys d)
+  takes-alike : (a b : Incoming) → IncomingLike o ks a b → IncomingLike o ks (takes a) (takes b)
   unfolding takes
-  takes-alike [] [] c d r h = h
-  takes-alike [] (y ∷ ys) c d r h = absurd r
-  takes-alike (x ∷ xs) [] c d r h = absurd r
-  takes-alike (x ∷ xs) (y ∷ ys) c d r h = record { rest = r .1; taken = ap (λ (n : ℕ). n + 1) (h .taken); sent = h .sent; positions = h .positions; steps = h .steps }
+  takes-alike a b h = go (a .rest) (b .rest) (h .rest)
+    where
+      go : (xs ys : List (List Entry)) → RestLike o ks xs ys → IncomingLike o ks (takenOf xs (a .taken)) (takenOf ys (b .taken))
+      go [] [] r = record { rest = tt; taken = h .taken }
+      go [] (y ∷ ys) r = absurd r
+      go (x ∷ xs) [] r = absurd r
+      go (x ∷ xs) (y ∷ ys) r = record { rest = r .1; taken = ap (λ (n : ℕ). n + 1) (h .taken) }
 
   receive-alike : (s t : State) → Like o ks s t → Like o ks (receive ks s) (receive ks t)
   unfolding receive
   receive-alike s t h =
       record {
-        processes = λ l lo. at-each _ l (s .processes) ∙ ap₂ refill (received-alike _ _ (h .common .rest) l lo) (h .processes l lo) ∙ sym (at-each _ l (t .processes));
-        common = takes-alike _ _ _ _ (h .common .rest) (h .common);
+        processes = λ l lo. at-each _ l (s .processes) ∙ ap₂ refill (received-alike _ _ (h .incoming .rest) l lo) (h .processes l lo) ∙ sym (at-each _ l (t .processes));
+        incoming = takes-alike _ _ (h .incoming);
+        outgoing = h .outgoing;
+        clock = h .clock;
       }
 
   send-alike : (s t : State) → Like o ks s t → Like o ks (send ks s) (send ks t)
-  unfolding send
+  unfolding send sends lineNow
   send-alike s t h =
-      let c : CommonLike o ks (s .common) (t .common) = h .common in
-      let lines = sent-snoc o ks (c .sent) (record { position = c .positions; columns = columns-alike o ks s t h 0 ks }) in
-      record { processes = h .processes; common = record { rest = c .rest; taken = c .taken; sent = lines; positions = c .positions; steps = c .steps } }
+      let lines = sent-snoc o ks (h .outgoing .sent) (record { position = ap (λ (c : Clock). c .positions) (h .clock); columns = columns-alike o ks s t h 0 ks }) in
+      let bytes = ap (λ (n : ℕ). n + lineLength ks) (h .outgoing .bytes) in
+      record { processes = h .processes; incoming = h .incoming; outgoing = record { sent = lines; bytes = bytes }; clock = h .clock }
 
   share-alike : (c : Call) (s t : State) → Like o ks s t → Like o ks (share c ks s) (share c ks t)
   unfolding share
@@ -152,63 +134,59 @@ module _ (o : Level) (hid : Low ≢ o) (ks : List Key) where
   share-alike Receives s t h = receive-alike s t h
   share-alike Sends s t h = send-alike s t h
 
-  counted-alike : (n : ℕ) (s t : State) → Like o ks s t → Like o ks (counted n s) (counted n t)
-  unfolding counted
-  counted-alike n s t h =
-      let c : CommonLike o ks (s .common) (t .common) = h .common in
-      let positions = ap (λ (m : ℕ). m + 1) (c .positions) in
-      let steps = ap (λ (m : ℕ). m + n) (c .steps) in
-      record { processes = h .processes; common = record { rest = c .rest; taken = c .taken; sent = c .sent; positions = positions; steps = steps } }
+  counted-alike : (l : Level) (s t : State) → Like o ks s t → Like o ks (counted l s) (counted l t)
+  counted-alike l s t h = record { processes = h .processes; incoming = h .incoming; outgoing = h .outgoing; clock = ap (ticked l) (h .clock) }
 
   put-alike : {l m : Level} → Changed l m → (p q : Process) (s t : State) → (l ≢ o → p ≡ q) → m ≢ o → process m s ≡ process m t → process m (withProcess l p s) ≡ process m (withProcess l q t)
   put-alike (same e f) p q s t g mo h = f p (s .processes) ∙ g (λ lo. mo (sym e ∙ lo)) ∙ sym (f q (t .processes))
   put-alike (other f) p q s t g mo h = f p (s .processes) ∙ h ∙ sym (f q (t .processes))
 
   with-alike : (l : Level) (p q : Process) (s t : State) → (l ≢ o → p ≡ q) → Like o ks s t → Like o ks (withProcess l p s) (withProcess l q t)
-  with-alike l p q s t e h = record { processes = λ m mo. put-alike (changed l m) p q s t e mo (h .processes m mo); common = h .common }
+  with-alike l p q s t e h = record { processes = λ m mo. put-alike (changed l m) p q s t e mo (h .processes m mo); incoming = h .incoming; outgoing = h .outgoing; clock = h .clock }
 
   -- At the low execution: equal low processes stay equal, and so does what all but o see of the message and the output
   lead-alike : (n : ℕ) (c : Command) (s t : State) → Like o ks s t → Like o ks (lead ks n c s) (lead ks n c t)
   unfolding lead
-  lead-alike n c s t h = let g = share-alike (callOf (c .op)) s t h in with-alike Low _ _ _ _ (λ lo. ap (step n c) (g .processes Low hid)) g
+  lead-alike n c s t h = let g = share-alike (callOf (c .op)) s t h in with-alike leader _ _ _ _ (λ lo. ap (step n c) (g .processes leader hid)) g
 
   module _ (cs : List Command) where
     -- At any other execution: o's own turn changes nothing that the others see, and theirs start from equal processes
     follow-alike : (l : Level) (s t : State) → Like o ks s t → Like o ks (follow cs l s) (follow cs l t)
     unfolding follow
-    follow-alike l s t h = with-alike l _ _ s t (λ lo. ap₂ (followed cs) (h .processes Low hid) (h .processes l lo)) h
+    follow-alike l s t h = with-alike l _ _ s t (λ lo. ap₂ (followed cs) (h .processes leader hid) (h .processes l lo)) h
+
+    moved-alike : (r : Role) (l : Level) (s t : State) → Like o ks s t → Like o ks (moved r ks cs l s) (moved r ks cs l t)
+    moved-alike leads l s t h =
+        let led : Process → State → State = λ p. lead ks (length cs) (command cs p) in
+        subst (λ (p : Process). Like o ks (led (process leader s) s) (led p t)) (h .processes leader hid) (lead-alike (length cs) _ s t h)
+    moved-alike follows l s t h = follow-alike l s t h
 
     turn-alike : (l : Level) (s t : State) → Like o ks s t → Like o ks (turn ks cs l s) (turn ks cs l t)
     unfolding turn
-    turn-alike Low s t h =
-        let led : Process → State → State = λ p. lead ks (length cs) (command cs p) in
-        counted-alike 1 _ _ (subst (λ (p : Process). Like o ks (led (process Low s) s) (led p t)) (h .processes Low hid) (lead-alike (length cs) _ s t h))
-    turn-alike High s t h = counted-alike 0 _ _ (follow-alike High s t h)
+    turn-alike l s t h = counted-alike l _ _ (moved-alike (role l) l s t h)
 
     -- ---- The endings
 
-    ended-alike : (e : Ending) (s t : State) → Like o ks s t → Same o ks (ended ks e s) (ended ks e t)
-    unfolding ended written
-    ended-alike e s t h =
-        let c : CommonLike o ks (s .common) (t .common) = h .common in
-        record { ending = refl; counts = cc (c .positions, c .steps, sent-count o ks (c .sent), c .taken); lines = c .sent }
+    ended-alike : (e : Ending) (s t : State) → Like o ks s t → Same o ks (ended e s) (ended e t)
+    unfolding ended
+    ended-alike e s t h = record { ending = refl; counts = cc (h .clock, h .outgoing .bytes, h .incoming .taken); lines = h .outgoing .sent }
 
     no-room-alike : (room : ℕ) (ls : List Level) (s t : State) → Like o ks s t → noRoom ks cs room ls s ≡ noRoom ks cs room ls t
-    unfolding noRoom written
+    unfolding noRoom
     no-room-alike room [] s t h = refl
-    no-room-alike room (Low ∷ ls) s t h = cc (h .processes Low hid, sent-count o ks (h .common .sent))
-    no-room-alike room (High ∷ ls) s t h = refl
+    no-room-alike room (l ∷ ls) s t h =
+        ap₂ (λ (p : Process) (n : ℕ). lacking (role l) (callOf (command cs p .op)) (room - n) (lineLength ks)) (h .processes leader hid) (h .outgoing .bytes)
 
     verdict-alike : (room : ℕ) (ls : List Level) (s t : State) → Like o ks s t → verdict ks cs room ls s ≡ verdict ks cs room ls t
     unfolding verdict
-    verdict-alike room ls s t h = cc (h .processes Low hid, no-room-alike room ls s t h)
+    verdict-alike room ls s t h = cc (h .processes leader hid, no-room-alike room ls s t h)
 
-    settle-same : (v : Verdict) (s t : State) (x y : Outcome) → Like o ks s t → Same o ks x y → Same o ks (settle ks v s x) (settle ks v t y)
+    settle-same : (v : Verdict) (s t : State) (x y : Outcome) → Like o ks s t → Same o ks x y → Same o ks (settle v s x) (settle v t y)
     settle-same GoesOn s t x y h later = later
     settle-same (Ends e) s t x y h later = ended-alike e s t h
 
-    settle-alike : {v w : Verdict} (s t : State) (x y : Outcome) → v ≡ w → Like o ks s t → Same o ks x y → Same o ks (settle ks v s x) (settle ks w t y)
-    settle-alike {v} {w} s t x y e h later = subst (λ (u : Verdict). Same o ks (settle ks v s x) (settle ks u t y)) e (settle-same v s t x y h later)
+    settle-alike : {v w : Verdict} (s t : State) (x y : Outcome) → v ≡ w → Like o ks s t → Same o ks x y → Same o ks (settle v s x) (settle w t y)
+    settle-alike {v} {w} s t x y e h later = subst (λ (u : Verdict). Same o ks (settle v s x) (settle u t y)) e (settle-same v s t x y h later)
 
     -- ---- The induction over the turns
 
@@ -219,4 +197,4 @@ module _ (o : Level) (hid : Low ≢ o) (ks : List Key) where
 
   pub initial-alike : (a b : List (List Entry)) → RestLike o ks a b → Like o ks (initial ks a) (initial ks b)
   unfolding initial
-  initial-alike a b r = record { processes = λ l lo. refl; common = record { rest = r; taken = refl; sent = none; positions = refl; steps = refl } }
+  initial-alike a b r = record { processes = λ l lo. refl; incoming = record { rest = r; taken = refl }; outgoing = record { sent = none; bytes = refl }; clock = refl }

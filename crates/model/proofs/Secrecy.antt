@@ -8,7 +8,7 @@ use native.Mathlib.{Omega.arith, Nat.suc-inj}
 use Rattle.model.specs.{Job.Job, Run.Outcome, Run.runJob, Message.source, Line.lineLength, Line.bytesOf, Line.memoryAfter, Answer.leftBy, Answer.numbersOf}
 use Rattle.model.specs.{Answer.runSheet, Secrecy.OwnedBy, Secrecy.Hidden, Secrecy.Indistinguishable, Secrecy.SecrecyOf, Secrecy.SheetSecrecyOf}
 use Rattle.model.specs.Data.{Entry, Key, Open, Secret, Level, Low, High, Ending, Counts, Ended}
-use Rattle.model.proofs.{Lockstep.LineLike, Lockstep.RestLike, Lockstep.Same, Lockstep.run-alike, Lockstep.initial-alike, Lockstep.low≢high, Line.split}
+use Rattle.model.proofs.{Lockstep.LineLike, Lockstep.RestLike, Lockstep.Same, Lockstep.run-alike, Lockstep.initial-alike, Levels.low≢high, Line.split}
 use Rattle.model.proofs.{Line.bytes-at, Counted.counts-of}
 
 -- a key is o's secret exactly where its column comes from o's execution

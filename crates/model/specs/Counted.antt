@@ -3,14 +3,17 @@ use Prim.Native.Nat.{ℕ, suc, _+_, _*_, _≤_}
 use mathlib.Core.List.{List, [], _∷_}
 use mathlib.Core.Path.{_≡_}
 use lib.ListN.{length, take}
-use Rattle.model.specs.{Job.Job, Line.bytesOf, Run.runJob}
-use Rattle.model.specs.Data.{Level, Low, High}
+use Rattle.model.specs.{Job.Job, State.Role, State.leads, State.follows, State.role, Line.bytesOf, Run.runJob}
+use Rattle.model.specs.Data.{Level}
 
--- the L letters of a list
+-- the L letters of a list: those whose level leads
+abbrev pub lowsBy : Role → ℕ → ℕ
+lowsBy leads n = suc n
+lowsBy follows n = n
+
 unfoldable pub lows : List Level → ℕ
 lows [] = 0
-lows (Low ∷ ls) = suc (lows ls)
-lows (High ∷ ls) = lows ls
+lows (l ∷ ls) = lowsBy (role l) (lows ls)
 
 -- "Positions used .. is never above the count of letters, and low steps equals the L letters among the letters used." "Bytes written is 10 + 12 × K
 -- for each line sent", as many as these lines have, and never above the bytes lent. "Messages taken counts lines".

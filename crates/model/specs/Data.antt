@@ -16,11 +16,9 @@ pub use Rattle.model.specs.declared.Level.{Level}
 pub use Rattle.model.specs.declared.Level.the-variants.{Low, High}
 pub use Rattle.model.specs.declared.Execution.{Execution}
 pub use Rattle.model.specs.declared.Effect.{Effect}
-pub use Rattle.model.specs.declared.Stepped.{Stepped}
+pub use Rattle.model.specs.declared.Clock.{Clock}
 pub use Rattle.model.specs.declared.Ending.{Ending}
 pub use Rattle.model.specs.declared.Ending.the-variants.{Stopped, LettersUsed, NoRoom}
-pub use Rattle.model.specs.declared.Verdict.{Verdict}
-pub use Rattle.model.specs.declared.Verdict.the-variants.{GoesOn, Ends}
 pub use Rattle.model.specs.declared.Counts.{Counts}
 pub use Rattle.model.specs.declared.Answer.{Answer}
 pub use Rattle.model.specs.declared.Answer.the-variants.{Ended, Refused}

@@ -1,8 +1,8 @@
 -- The two calls: what a `receive` and a `send` do to the message and the output.
-use mathlib.Core.List.{List, [], _∷_, _++_}
+use mathlib.Core.List.{List, [], _∷_}
 use lib.ListN.{getD, drop, length, replicate}
-use Prim.Native.Nat.{_+_, ℕ, suc}
-use Rattle.model.specs.State.{Common, refill, State, each, fieldsOf}
+use Prim.Native.Nat.{ℕ, suc}
+use Rattle.model.specs.{State.Sent, State.refill, State.each, State.takes, State.sends, State.State, State.fieldsOf, State.withOutgoing, Line.lineLength}
 use Rattle.model.specs.Data.{Entry, Absent, Number, Key, Open, Secret, Level, Low, High}
 
 -- ---- `receive`
@@ -25,13 +25,14 @@ unfoldable pub received : List Key → List (List Entry) → Level → List Entr
 received ks [] l = replicate (length ks) Absent
 received ks (line ∷ rest) l = fill l ks line
 
--- the line is taken. "Messages taken counts lines, so a `receive` with none left adds nothing."
-unfoldable pub takes : List (List Entry) → Common → Common
-takes [] c = c
-takes (line ∷ rest) c = record { rest = rest; taken = c .taken + 1; sent = c .sent; positions = c .positions; steps = c .steps }
-
 unfoldable pub receive : List Key → State → State
-receive ks s = record { processes = each (λ l. refill (received ks (s .common .rest) l)) (s .processes); common = takes (s .common .rest) (s .common) }
+receive ks s =
+    record {
+      processes = each (λ l. refill (received ks (s .incoming .rest) l)) (s .processes);
+      incoming = takes (s .incoming);
+      outgoing = s .outgoing;
+      clock = s .clock;
+    }
 
 -- ---- `send`
 
@@ -45,9 +46,10 @@ unfoldable pub columns : ℕ → List Key → (Level → List Entry) → List En
 columns i [] f = []
 columns i (k ∷ ks) f = getD (f (source k)) i Absent ∷ columns (suc i) ks f
 
-abbrev pub sends : List Entry → Common → Common
-sends es c = record { rest = c .rest; taken = c .taken; sent = c .sent ++ (record { position = c .positions; columns = es } ∷ []); positions = c .positions; steps = c .steps }
+-- the line that a send makes of the message
+unfoldable pub lineNow : List Key → State → Sent
+lineNow ks s = record { position = s .clock .positions; columns = columns 0 ks (fieldsOf s) }
 
 -- "`send` writes one line"; "The message is unchanged by it."
 unfoldable pub send : List Key → State → State
-send ks s = record { processes = s .processes; common = sends (columns 0 ks (fieldsOf s)) (s .common) }
+send ks s = withOutgoing (sends (lineNow ks s) (lineLength ks) (s .outgoing)) s

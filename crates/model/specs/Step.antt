@@ -4,7 +4,7 @@ use Prim.Native.Nat.{ℕ, _+_}
 use mathlib.Core.Bool.{cond}
 use Rattle.model.specs.{Limits.variables, Arith.sum, Arith.difference, Arith.product, Arith.quotient, Arith.isZero}
 use Rattle.model.specs.Data.{Entry, Absent, Number, Op, Set, Add, Sub, Mul, Div, Read, Has, Put, Drop, IfNeg, IfZero, Jump, Receive, Send, Stop, Command, Call}
-use Rattle.model.specs.Data.{Neither, Receives, Sends, Execution, Effect, Stepped}
+use Rattle.model.specs.Data.{Neither, Receives, Sends, Execution, Effect}
 
 -- "v becomes the entry at k, 0 if absent"
 abbrev pub numberOf : Entry → ℤ
@@ -34,38 +34,30 @@ begun = record { place = 0; vars = replicate variables (pos 0); calls = 0 }
 
 -- What a command does, in numbers and one entry. Where it gives its variable no value, that is the one it holds; where it leaves the entry, that is
 -- the one it finds.
-abbrev pub made : ℕ → ℤ → ℕ → Entry → Effect
-made p z n e = record { place = p; value = z; calls = n; entry = e }
+abbrev pub made : ℕ → ℤ → Entry → Effect
+made p z e = record { place = p; value = z; entry = e }
 
 -- The meanings of the words, in the table's order: of a command at the place p, in a program that ends at the place end; a and b are what the variables
 -- v and w hold, e is the entry at k. A call only moves the execution on here: what else it does is said with the turns.
 abbrev pub effectBy : Op → Command → ℕ → ℤ → ℤ → Entry → ℕ → Effect
-effectBy Set c p a b e end = made (p + 1) (c .n) 0 e
-effectBy Add c p a b e end = made (p + 1) (sum a b) 0 e
-effectBy Sub c p a b e end = made (p + 1) (difference a b) 0 e
-effectBy Mul c p a b e end = made (p + 1) (product a b) 0 e
-effectBy Div c p a b e end = made (p + 1) (quotient a b) 0 e
-effectBy Read c p a b e end = made (p + 1) (numberOf e) 0 e
-effectBy Has c p a b e end = made (p + 1) (presence e) 0 e
-effectBy Put c p a b e end = made (p + 1) a 0 (Number a)
-effectBy Drop c p a b e end = made (p + 1) a 0 Absent
-effectBy IfNeg c p a b e end = made (cond (ltZ a (pos 0)) (c .t) (p + 1)) a 0 e
-effectBy IfZero c p a b e end = made (cond (isZero a) (c .t) (p + 1)) a 0 e
-effectBy Jump c p a b e end = made (c .t) a 0 e
-effectBy Receive c p a b e end = made (p + 1) a 1 e
-effectBy Send c p a b e end = made (p + 1) a 1 e
-effectBy Stop c p a b e end = made end a 0 e
+effectBy Set c p a b e end = made (p + 1) (c .n) e
+effectBy Add c p a b e end = made (p + 1) (sum a b) e
+effectBy Sub c p a b e end = made (p + 1) (difference a b) e
+effectBy Mul c p a b e end = made (p + 1) (product a b) e
+effectBy Div c p a b e end = made (p + 1) (quotient a b) e
+effectBy Read c p a b e end = made (p + 1) (numberOf e) e
+effectBy Has c p a b e end = made (p + 1) (presence e) e
+effectBy Put c p a b e end = made (p + 1) a (Number a)
+effectBy Drop c p a b e end = made (p + 1) a Absent
+effectBy IfNeg c p a b e end = made (cond (ltZ a (pos 0)) (c .t) (p + 1)) a e
+effectBy IfZero c p a b e end = made (cond (isZero a) (c .t) (p + 1)) a e
+effectBy Jump c p a b e end = made (c .t) a e
+effectBy Receive c p a b e end = made (p + 1) a e
+effectBy Send c p a b e end = made (p + 1) a e
+effectBy Stop c p a b e end = made end a e
 
 abbrev pub effectOf : Command → ℕ → ℤ → ℤ → Entry → ℕ → Effect
 effectOf c p a b e end = effectBy (c .op) c p a b e end
-
--- an effect in the record, and beside it
-abbrev pub steppedBy : Execution → ℕ → Effect → Stepped
-steppedBy x v f = record { execution = afterOf x v (f .value) (f .place) (x .calls + f .calls); entry = f .entry }
-
--- "Each command is one step.": in a program of n commands
-unfoldable pub does : ℕ → Command → Execution → Entry → Stepped
-does n c x e = steppedBy x (c .v) (effectOf c (x .place) (variable x (c .v)) (variable x (c .w)) e n)
 
 -- "`receive`, `send`: the two calls"
 unfoldable pub callOf : Op → Call
@@ -84,3 +76,22 @@ callOf Jump = Neither
 callOf Receive = Receives
 callOf Send = Sends
 callOf Stop = Neither
+
+-- how many calls a command makes
+abbrev pub callsBy : Call → ℕ
+callsBy Neither = 0
+callsBy Receives = 1
+callsBy Sends = 1
+
+-- What a command leaves: the next record of its execution, and the entry at its key
+pub record Stepped : Type 0 where
+  pub execution : Execution
+  pub entry : Entry
+
+-- an effect in the record, which has made so many calls then, and beside it
+abbrev pub steppedBy : Execution → ℕ → ℕ → Effect → Stepped
+steppedBy x v n f = record { execution = afterOf x v (f .value) (f .place) n; entry = f .entry }
+
+-- "Each command is one step.": in a program of n commands
+unfoldable pub does : ℕ → Command → Execution → Entry → Stepped
+does n c x e = steppedBy x (c .v) (x .calls + callsBy (callOf (c .op))) (effectOf c (x .place) (variable x (c .v)) (variable x (c .w)) e n)

@@ -44,23 +44,24 @@ abbrev pub side : Level → Field → Entry
 side Low f = f .low
 side High f = f .high
 
+abbrev pub withSide : Level → Entry → Field → Field
+withSide Low e f = record { low = e; high = f .high }
+withSide High e f = record { low = f .low; high = e }
+
 unfoldable pub held : ℕ → List Field → Level → List Entry
 held n m l = firstOf (side l) n m
 
 -- ---- The job
 
--- the job in these arrays, of which so much counts; the letters are those that count
-abbrev pub jobFrom : ℕ → List KeySlot → ℕ → List Command → ℕ → List MessageLine → List ℕ → Job
-jobFrom keys secrets count commands lines messages turns =
-    record {
-      keys = keysIn keys secrets;
-      commands = take count commands;
-      messages = map (entriesIn keys) (take lines messages);
-      turns = map levelOf turns;
-    }
-
+-- the job in these arrays, of which so much counts
 unfoldable pub jobOf : StoredJob → Job
-jobOf r = jobFrom (r .keys) (r .secrets) (r .«command_count») (r .commands) (r .«message_count») (r .messages) (take (r .«turn_count») (r .turns))
+jobOf r =
+    record {
+      keys = keysIn (r .keys) (r .secrets);
+      commands = take (r .«command_count») (r .commands);
+      messages = map (entriesIn (r .keys)) (take (r .«message_count») (r .messages));
+      turns = map levelOf (take (r .«turn_count») (r .turns));
+    }
 
 -- what counts of an array is there
 pub record Stored (r : StoredJob) : Type 0 where

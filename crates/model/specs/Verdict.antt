@@ -1,14 +1,15 @@
 -- What is found before a turn: one of the endings "From the state", or that the turn is taken; and whether a high execution's turn passes idle.
-use Prim.Native.Nat.{ℕ, _*_, _-_}
+use Prim.Native.Nat.{ℕ, _-_}
 use mathlib.Core.List.{List, [], _∷_}
-use lib.{ListN.length, Dec.ltb, Dec.leb}
+use lib.Dec.{ltb, leb}
 use mathlib.Core.Bool.{Bool, false, true, cond}
-use Rattle.model.specs.{State.State, State.command, State.process, State.stopped, Line.lineLength, Step.callOf}
-use Rattle.model.specs.Data.{Key, Command, Call, Neither, Receives, Sends, Level, Low, High, Stopped, LettersUsed, NoRoom, Verdict, GoesOn, Ends}
+use Rattle.model.specs.{State.Role, State.leads, State.follows, State.role, State.leader, State.State, State.command, State.process, State.stopped}
+use Rattle.model.specs.{Line.lineLength, Step.callOf}
+use Rattle.model.specs.Data.{Key, Command, Call, Neither, Receives, Sends, Level, Ending, Stopped, LettersUsed, NoRoom}
 
--- "Bytes written is 10 + 12 × K for each line sent."
-unfoldable pub written : List Key → State → ℕ
-written ks s = lineLength ks * length (s .common .sent)
+pub data Verdict : Type 0 where
+  GoesOn : Verdict
+  Ends : Ending → Verdict
 
 -- "its command is `send`, and fewer bytes are left than a line needs"
 unfoldable pub short : Call → ℕ → ℕ → Bool
@@ -21,11 +22,15 @@ abbrev pub allUsed : List Level → Bool
 allUsed [] = true
 allUsed (l ∷ ls) = false
 
--- "a letter L is next, its command is `send`, and fewer bytes are left than a line needs", of room bytes lent
+-- "a letter L is next, its command is `send`, and fewer bytes are left than a line needs": of the next letter's role, and the leader's call
+abbrev pub lacking : Role → Call → ℕ → ℕ → Bool
+lacking leads call left line = short call left line
+lacking follows call left line = false
+
+-- of room bytes lent, those that are written are not left
 unfoldable pub noRoom : List Key → List Command → ℕ → List Level → State → Bool
 noRoom ks cs room [] s = false
-noRoom ks cs room (Low ∷ ls) s = short (callOf (command cs (process Low s) .op)) (room - written ks s) (lineLength ks)
-noRoom ks cs room (High ∷ ls) s = false
+noRoom ks cs room (l ∷ ls) s = lacking (role l) (callOf (command cs (process leader s) .op)) (room - s .outgoing .bytes) (lineLength ks)
 
 -- The table of endings, "Before each turn", "tested in that order": 0 "the low execution has stopped"; 31 "it has not, and all letters are used"; 32
 abbrev pub verdictBy : Bool → Bool → Bool → Verdict
@@ -33,7 +38,7 @@ verdictBy atEnd used full = cond atEnd (Ends Stopped) (cond used (Ends LettersUs
 
 -- the letters are those that are left
 unfoldable pub verdict : List Key → List Command → ℕ → List Level → State → Verdict
-verdict ks cs room ls s = verdictBy (stopped cs (process Low s)) (allUsed ls) (noRoom ks cs room ls s)
+verdict ks cs room ls s = verdictBy (stopped cs (process leader s)) (allUsed ls) (noRoom ks cs room ls s)
 
 -- "Its j-th call (j from 1) moves on only if the low execution has made at least j calls, of either kind.": it waits where the low one has made no
 -- more calls than it has itself

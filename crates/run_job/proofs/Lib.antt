@@ -1,5 +1,3 @@
--- The laws of the loop over the letters.
-pub mod Laws
-pub mod Memory
 pub mod Views
-pub mod Turns
+pub mod Turn
+pub mod Loop

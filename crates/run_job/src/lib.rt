@@ -1,139 +1,142 @@
 // The run: two executions over one message, turn by turn, to an ending.
 use model::Answer;
-use model::COMMAND_CAPACITY;
 use model::Call;
-use model::Command;
+use model::Clock;
+use model::Ending;
 use model::Execution;
-use model::KEY_CAPACITY;
-use model::KeySlot;
-use model::MESSAGE_CAPACITY;
-use model::MessageLine;
+use model::Level;
 use model::StoredJob;
-use model::Verdict;
 use run_message::cleared;
 use run_message::receive;
-use run_message::with_high;
-use run_message::with_low;
 use run_step::call_of;
+use run_step::calls_by;
+use run_step::effect_at;
 use run_step::index;
-use run_step::step;
 use run_verdict::ended;
-use run_verdict::idles;
-use run_verdict::lacks_room;
-use run_verdict::letter_at;
+use run_verdict::level_of;
 use run_verdict::readable;
 use run_verdict::taken_after;
-use run_verdict::verdict;
+use run_verdict::waits;
 use write_line::write_line;
 ghost use mathlib.Core.Path.{_≡_};
 ghost use lib.ListN.{length};
-ghost use Rattle.model.specs.{Run.runJob, Answer.left, Answer.leftBy, Stored.jobFrom, Stored.jobOf, Stored.Stored, Accepted.Sound};
-ghost use Rattle.run_job.specs.Run.{Ready};
-
-// Per turn only an execution's record, one command and one entry move; a receive and a send move the message too.
-// Every turn ends in its own step of the position, so that each is one case of the proof.
-fn run_turns(
-    keys: usize,
-    secrets: [KeySlot; KEY_CAPACITY],
-    count: usize,
-    commands: [Command; COMMAND_CAPACITY],
-    lines: usize,
-    messages: [MessageLine; MESSAGE_CAPACITY],
-    turns: &[u8],
-    out: &mut [u8],
-) -> Answer
-    requires { ⌜ Ready keys secrets count commands lines messages (now turns) ⌝ }
-    ensures { λ r. ⌜ left r (now (out .exit)) ≡ leftBy (now (out .entry)) (runJob (jobFrom keys secrets count commands lines messages (now (turns .entry))) (length (now (out .entry)))) ⌝ }
-{
-    let line_bytes = 10 + 12 * keys;
-    let mut low = Execution::begun();
-    let mut high = Execution::begun();
-    let mut message = cleared();
-    let mut at: usize = 0;
-    let mut steps: usize = 0;
-    let mut written: usize = 0;
-    let mut taken: usize = 0;
-    loop {
-        let p = low.place;
-        let i = readable(p, count);
-        let c = commands[i];
-        let op = c.op;
-        let call = call_of(op);
-        let letter = letter_at(turns, at);
-        let full = lacks_room(letter, call, out.len() - written, line_bytes);
-        let v = verdict(count <= p, turns.len() <= at, full);
-        if let Verdict::Ends(e) = v {
-            return ended(e, at, steps, written, taken);
-        }
-        if letter == b'L' {
-            match call {
-                Call::Receives => {
-                    let t = readable(taken, lines);
-                    let m = messages[t];
-                    message = receive(keys, secrets, taken < lines, m);
-                    taken = taken_after(taken, lines);
-                    low = low.called();
-                    steps = steps + 1;
-                    at = at + 1;
-                }
-                Call::Sends => {
-                    write_line(out, written, at, keys, secrets, message);
-                    written = written + line_bytes;
-                    low = low.called();
-                    steps = steps + 1;
-                    at = at + 1;
-                }
-                Call::Neither => {
-                    let k = index(c.k);
-                    let f = message[k];
-                    let e = f.low;
-                    let r = step(low, c, e, count);
-                    low = r.execution;
-                    let n = r.entry;
-                    message[k] = with_low(f, n);
-                    steps = steps + 1;
-                    at = at + 1;
-                }
-            }
-        } else {
-            let q = high.place;
-            let j = readable(q, count);
-            let d = commands[j];
-            let o = d.op;
-            if idles(count <= q, call_of(o), low.calls, high.calls) {
-                at = at + 1;
-            } else {
-                let k = index(d.k);
-                let f = message[k];
-                let e = f.high;
-                let r = step(high, d, e, count);
-                high = r.execution;
-                let n = r.entry;
-                message[k] = with_high(f, n);
-                at = at + 1;
-            }
-        }
-    }
-}
+ghost use Rattle.model.specs.{Run.runJob, Answer.left, Answer.leftBy, Stored.jobOf, Stored.Stored, Accepted.Sound};
 
 // A job that reading gave, with an output memory.
+//
+// Per turn only one command, one entry and what changes of one record move. An ending is tested where it can come about: that the letters are used
+// at every turn, the room at a send, the stop after a low step. Every turn ends in its own step of the clock, so that each is one case of the proof.
 pub fn run_job(job: StoredJob, out: &mut [u8]) -> Answer
     requires { ⌜ Sound (jobOf job) × Stored job ⌝ }
     ensures { λ r. ⌜ left r (now (out .exit)) ≡ leftBy (now (out .entry)) (runJob (jobOf job) (length (now (out .entry)))) ⌝ }
 {
+    let keys = job.keys;
     let secrets = job.secrets;
-    let commands = job.commands;
-    let messages = job.messages;
-    let turns = job.turns;
-    let n = job.turn_count;
-    run_turns(
-        job.keys,
-        secrets,
-        job.command_count,
-        commands,
-        job.message_count,
-        messages,
-        &turns[..n],
-        out,
-    )
+    let count = job.command_count;
+    let line_bytes = 10 + 12 * keys;
+    let mut low = Execution::begun();
+    let mut high = Execution::begun();
+    let mut message = cleared();
+    let mut clock = Clock::started();
+    let mut bytes: usize = 0;
+    let mut taken: usize = 0;
+    loop {
+        let at = clock.positions;
+        if job.turn_count <= at {
+            return ended(Ending::LettersUsed, clock, bytes, taken);
+        }
+        match level_of(job.turns[at]) {
+            Level::Low => {
+                let p = low.place;
+                let c = job.commands[p];
+                let op = c.op;
+                match call_of(op) {
+                    Call::Receives => {
+                        let t = readable(taken, job.message_count);
+                        let line = job.messages[t];
+                        message = receive(keys, secrets, taken < job.message_count, line);
+                        taken = taken_after(taken, job.message_count);
+                        let next = low.called();
+                        low.place = next.place;
+                        low.calls = next.calls;
+                        clock = clock.ticked(Level::Low);
+                        if count <= low.place {
+                            return ended(Ending::Stopped, clock, bytes, taken);
+                        }
+                    }
+                    Call::Sends => {
+                        if out.len() - bytes < line_bytes {
+                            return ended(Ending::NoRoom, clock, bytes, taken);
+                        }
+                        write_line(out, bytes, at, keys, secrets, message);
+                        bytes = bytes + line_bytes;
+                        let next = low.called();
+                        low.place = next.place;
+                        low.calls = next.calls;
+                        clock = clock.ticked(Level::Low);
+                        if count <= low.place {
+                            return ended(Ending::Stopped, clock, bytes, taken);
+                        }
+                    }
+                    Call::Neither => {
+                        let k = index(c.k);
+                        let f = message[k];
+                        let v = index(c.v);
+                        let w = index(c.w);
+                        let r = effect_at(
+                            c,
+                            p,
+                            low.vars[v],
+                            low.vars[w],
+                            f.side(Level::Low),
+                            count,
+                        );
+                        let next = low.after(v, r.value, r.place, low.calls);
+                        low.vars[v] = next.holds(v);
+                        low.place = next.place;
+                        low.calls = next.calls;
+                        let e = r.entry;
+                        message[k] = f.with(Level::Low, e);
+                        clock = clock.ticked(Level::Low);
+                        if count <= low.place {
+                            return ended(Ending::Stopped, clock, bytes, taken);
+                        }
+                    }
+                }
+            }
+            Level::High => {
+                let p = high.place;
+                if count <= p {
+                    clock = clock.ticked(Level::High);
+                } else {
+                    let c = job.commands[p];
+                    let op = c.op;
+                    let call = call_of(op);
+                    if waits(call, low.calls, high.calls) {
+                        clock = clock.ticked(Level::High);
+                    } else {
+                        let k = index(c.k);
+                        let f = message[k];
+                        let v = index(c.v);
+                        let w = index(c.w);
+                        let r = effect_at(
+                            c,
+                            p,
+                            high.vars[v],
+                            high.vars[w],
+                            f.side(Level::High),
+                            count,
+                        );
+                        let next = high.after(v, r.value, r.place, high.calls + calls_by(call));
+                        high.vars[v] = next.holds(v);
+                        high.place = next.place;
+                        high.calls = next.calls;
+                        let e = r.entry;
+                        message[k] = f.with(Level::High, e);
+                        clock = clock.ticked(Level::High);
+                    }
+                }
+            }
+        }
+    }
 }

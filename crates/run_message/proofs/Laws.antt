@@ -1,12 +1,13 @@
 -- The fields that are filled already, at each level, are the first of those that the model fills.
 use mathlib.Core.Path.{_≡_, refl, sym, ap, ap₂, _∙_}
+use mathlib.Core.Bool.{Bool, true, false, cond}
 use mathlib.Core.List.{List, [], _∷_, _++_, map}
 use Prim.Native.Nat.{ℕ, zero, suc, _+_, _≤_, _<_}
 use native.Mathlib.{Omega.arith, Nat.le-of-suc-le-suc, Nat.not-suc-le-zero, Numerals.add-one}
 use lib.{ListN.length, ListN.getD, ListN.take, ListN.drop, ListN.set, ListN.replicate, ListN.length-map, Seq.take-suc, Seq.take-suc-set, Seq.take-all, Seq.map-set-same}
 use Rattle.model.specs.{Stored.keyCapacity, Stored.firstOf, Stored.keyIn, Stored.entryIn, Stored.keysIn, Stored.side, Stored.held, Stored.openSlot, Stored.absentSlot}
 use Rattle.model.specs.{Stored.absentField, Message.shown, Message.fill}
-use Rattle.run_message.specs.Message.{fieldOf, Cleared}
+use Rattle.run_message.specs.Message.{fieldOf, Received, Cleared}
 use Rattle.model.proofs.Stored.{map-set, first-set, first-same, first-at, first-count}
 use Rattle.model.specs.declared.{Entry.Entry, Field.Field, Key.Key, Level.Level, KeySlot.KeySlot, EntrySlot.EntrySlot}
 use Rattle.model.specs.declared.Entry.the-variants.{Absent, Number}
@@ -41,6 +42,13 @@ pub field-secret : (d : _) (e : Entry) → record { low = Number d; high = e } �
 unfolding shown
 field-secret d e = refl
 
+-- ---- No line left
+
+pub cleared-held : (n : ℕ) (m : List Field) → n ≤ keyCapacity → Cleared m → (l : Level) → held n m l ≡ replicate n Absent
+unfolding held
+cleared-held n m h e Low = rw e (first-same (side Low) n keyCapacity absentField h)
+cleared-held n m h e High = rw e (first-same (side High) n keyCapacity absentField h)
+
 module _ (n : ℕ) (ss : List KeySlot) (ts : List EntrySlot) (keys : n ≤ length ss) where
   abbrev ks : List Key
   ks = keysIn n ss
@@ -72,7 +80,7 @@ module _ (n : ℕ) (ss : List KeySlot) (ts : List EntrySlot) (keys : n ≤ lengt
       ∙ ap (λ (i : ℕ). take i w) (sym (add-one k))
 
   -- all of them
-  pub filled-all : (m : List Field) (k : ℕ) → k ≡ n → ((l : Level) → firstOf (side l) k m ≡ take k (fill l ks es)) → (l : Level) → held n m l ≡ fill l ks es
+  filled-all : (m : List Field) (k : ℕ) → k ≡ n → ((l : Level) → firstOf (side l) k m ≡ take k (fill l ks es)) → (l : Level) → held n m l ≡ fill l ks es
   unfolding held
   filled-all m k e h l =
       ap (λ (i : ℕ). firstOf (side l) i m) (sym e)
@@ -80,12 +88,11 @@ module _ (n : ℕ) (ss : List KeySlot) (ts : List EntrySlot) (keys : n ≤ lengt
       ∙ ap (λ (i : ℕ). take i (fill l ks es)) e
       ∙ take-all n (fill l ks es) (omega (arith, fill-length l ks es, keys-count))
 
--- ---- No line left
-
-pub cleared-held : (n : ℕ) (m : List Field) → n ≤ keyCapacity → Cleared m → (l : Level) → held n m l ≡ replicate n Absent
-unfolding held
-cleared-held n m h e Low = rw e (first-same (side Low) n keyCapacity absentField h)
-cleared-held n m h e High = rw e (first-same (side High) n keyCapacity absentField h)
+  -- where there is a line all are filled, else none
+  pub received-all : n ≤ keyCapacity → (m : List Field) (k : ℕ) (more : Bool) → k ≡ cond more n 0 → (k ≡ 0 → Cleared m)
+      → ((l : Level) → firstOf (side l) k m ≡ take k (fill l ks es)) → Received n m ks more es
+  received-all few m k true e none h l = filled-all m k e h l
+  received-all few m k false e none h l = cleared-held n m few (none e) l
 
 -- ---- One field changed
 

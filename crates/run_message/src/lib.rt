@@ -6,9 +6,10 @@ use model::Key;
 use model::KeySlot;
 use model::MessageLine;
 ghost use mathlib.Core.Path.{_≡_};
+ghost use mathlib.Core.Bool.{cond};
 ghost use Prim.Native.Nat.{_≤_};
 ghost use Rattle.model.specs.Stored.{keyCapacity, keysIn, entriesIn};
-ghost use Rattle.run_message.specs.Message.{fieldOf, withLow, withHigh, Filled, Received, Cleared};
+ghost use Rattle.run_message.specs.Message.{fieldOf, Received, Cleared};
 
 // A key's fields where the line has the entry e at it: a secret key's low field is the dummy, whether or not e is present.
 fn field(key: Key, e: Entry) -> Field
@@ -26,23 +27,11 @@ fn field(key: Key, e: Entry) -> Field
     }
 }
 
-// The fields that a message line fills.
-fn fill(keys: usize, secrets: [KeySlot; KEY_CAPACITY], line: MessageLine) -> [Field; KEY_CAPACITY]
-    requires { ⌜ keys ≤ keyCapacity ⌝ }
-    ensures { λ r. ⌜ Filled keys r (keysIn keys secrets) (entriesIn keys line) ⌝ }
+// As many keys as a receive fills.
+fn filled_keys(more: bool, keys: usize) -> usize
+    ensures { λ r. ⌜ (r ≡ cond more keys 0) × (r ≤ keys) ⌝ }
 {
-    let mut message = cleared();
-    let slots = line.slots;
-    let mut k: usize = 0;
-    while k < keys {
-        let s = secrets[k];
-        let key = s.key;
-        let t = slots[k];
-        let e = t.entry;
-        message[k] = field(key, e);
-        k += 1;
-    }
-    message
+    if more { keys } else { 0 }
 }
 
 // The fields after a receive: those that the line fills, where there is one more; else every field is absent.
@@ -55,10 +44,19 @@ pub fn receive(
     requires { ⌜ keys ≤ keyCapacity ⌝ }
     ensures { λ r. ⌜ Received keys r (keysIn keys secrets) more (entriesIn keys line) ⌝ }
 {
-    if more {
-        return fill(keys, secrets, line);
+    let mut message = cleared();
+    let slots = line.slots;
+    let most = filled_keys(more, keys);
+    let mut k: usize = 0;
+    while k < most {
+        let s = secrets[k];
+        let key = s.key;
+        let t = slots[k];
+        let e = t.entry;
+        message[k] = field(key, e);
+        k += 1;
     }
-    cleared()
+    message
 }
 
 // Every field absent.
@@ -70,19 +68,4 @@ pub fn cleared() -> [Field; KEY_CAPACITY]
         high: Entry::Absent,
     };
     [none; KEY_CAPACITY]
-}
-
-// The low execution changes only the low field, the high one only the high field.
-pub fn with_low(f: Field, e: Entry) -> Field
-    ensures { λ r. ⌜ r ≡ withLow f e ⌝ }
-{
-    let h = f.high;
-    Field { low: e, high: h }
-}
-
-pub fn with_high(f: Field, e: Entry) -> Field
-    ensures { λ r. ⌜ r ≡ withHigh f e ⌝ }
-{
-    let l = f.low;
-    Field { low: l, high: e }
 }

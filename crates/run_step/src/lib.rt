@@ -3,19 +3,16 @@ use model::Call;
 use model::Command;
 use model::Effect;
 use model::Entry;
-use model::Execution;
 use model::Op;
-use model::Stepped;
 use run_arith::add;
 use run_arith::div;
 use run_arith::mul;
 use run_arith::sub;
 ghost use mathlib.Core.Path.{_≡_};
 ghost use mathlib.Core.Bool.{cond};
-ghost use Prim.Native.Nat.{_+_, _<_};
+ghost use Prim.Native.Nat.{_<_, _≤_};
 ghost use lib.{IntN.pos, Signed.ltZ};
-ghost use Rattle.model.specs.{Arith.isZero, Step.numberOf, Step.presence, Step.made as Effect·made, Step.effectOf, Step.does, Step.callOf};
-ghost use Rattle.run_step.specs.Step.{MayStep};
+ghost use Rattle.model.specs.{Arith.isZero, Step.numberOf, Step.presence, Step.made as Effect·made, Step.effectOf, Step.callOf, Step.callsBy};
 
 // A variable's or a key's number, as an index.
 pub fn index(x: u8) -> usize
@@ -60,56 +57,39 @@ fn if_zero(a: i32, t: usize, p: usize) -> usize
     if a == 0 { t } else { p }
 }
 
-fn made(place: usize, value: i32, calls: usize, entry: Entry) -> Effect
-    ensures { λ r. ⌜ r ≡ Effect·made place value calls entry ⌝ }
+fn made(place: usize, value: i32, entry: Entry) -> Effect
+    ensures { λ r. ⌜ r ≡ Effect·made place value entry ⌝ }
 {
     Effect {
-        place: place,
-        value: value,
-        calls: calls,
-        entry: entry,
+        place,
+        value,
+        entry,
     }
 }
 
 // A command at the place p of a program that ends at the place end; a and b are what its variables hold, e is the entry at its key.
-fn effect_at(c: Command, p: usize, a: i32, b: i32, e: Entry, end: usize) -> Effect
+pub fn effect_at(c: Command, p: usize, a: i32, b: i32, e: Entry, end: usize) -> Effect
     requires { ⌜ p < end ⌝ }
     ensures { λ r. ⌜ r ≡ effectOf c p a b e end ⌝ }
 {
     let op = c.op;
     let q = p + 1;
     match op {
-        Op::Set => made(q, c.n, 0, e),
-        Op::Add => made(q, add(a, b), 0, e),
-        Op::Sub => made(q, sub(a, b), 0, e),
-        Op::Mul => made(q, mul(a, b), 0, e),
-        Op::Div => made(q, div(a, b), 0, e),
-        Op::Read => made(q, number_of(e), 0, e),
-        Op::Has => made(q, presence_of(e), 0, e),
-        Op::Put => made(q, a, 0, Entry::Number(a)),
-        Op::Drop => made(q, a, 0, Entry::Absent),
-        Op::IfNeg => made(if_neg(a, target(c.t), q), a, 0, e),
-        Op::IfZero => made(if_zero(a, target(c.t), q), a, 0, e),
-        Op::Jump => made(target(c.t), a, 0, e),
-        Op::Receive => made(q, a, 1, e),
-        Op::Send => made(q, a, 1, e),
-        Op::Stop => made(end, a, 0, e),
-    }
-}
-
-// One step of the execution x, in a program that ends at the place end; e is the entry at the command's key.
-pub fn step(x: Execution, c: Command, e: Entry, end: usize) -> Stepped
-    requires { ⌜ MayStep x c end ⌝ }
-    ensures { λ r. ⌜ r ≡ does end c x e ⌝ }
-{
-    let v = index(c.v);
-    let w = index(c.w);
-    let f = effect_at(c, x.place, x.vars[v], x.vars[w], e, end);
-    let next = x.after(v, f.value, f.place, x.calls + f.calls);
-    let entry = f.entry;
-    Stepped {
-        execution: next,
-        entry: entry,
+        Op::Set => made(q, c.n, e),
+        Op::Add => made(q, add(a, b), e),
+        Op::Sub => made(q, sub(a, b), e),
+        Op::Mul => made(q, mul(a, b), e),
+        Op::Div => made(q, div(a, b), e),
+        Op::Read => made(q, number_of(e), e),
+        Op::Has => made(q, presence_of(e), e),
+        Op::Put => made(q, a, Entry::Number(a)),
+        Op::Drop => made(q, a, Entry::Absent),
+        Op::IfNeg => made(if_neg(a, target(c.t), q), a, e),
+        Op::IfZero => made(if_zero(a, target(c.t), q), a, e),
+        Op::Jump => made(target(c.t), a, e),
+        Op::Receive => made(q, a, e),
+        Op::Send => made(q, a, e),
+        Op::Stop => made(end, a, e),
     }
 }
 
@@ -132,5 +112,16 @@ pub fn call_of(op: Op) -> Call
         Op::Receive => Call::Receives,
         Op::Send => Call::Sends,
         Op::Stop => Call::Neither,
+    }
+}
+
+// How many calls such a command makes.
+pub fn calls_by(call: Call) -> usize
+    ensures { λ r. ⌜ (r ≡ callsBy call) × (r ≤ 1) ⌝ }
+{
+    match call {
+        Call::Neither => 0,
+        Call::Receives => 1,
+        Call::Sends => 1,
     }
 }

@@ -1,59 +1,34 @@
-// The parts of one turn that are no command: the table of endings, which letter is next, whether there is room, whether the high execution waits.
+// The parts of one turn that are no command: whose turn it is, whether a high execution waits, what a receive takes, the answer of a run that ends.
 use model::Answer;
 use model::Call;
+use model::Clock;
 use model::Counts;
 use model::Ending;
-use model::Verdict;
+use model::Level;
 ghost use mathlib.Core.Path.{_≡_};
 ghost use mathlib.Core.Bool.{cond};
 ghost use Prim.Native.Nat.{_+_, _<_};
-ghost use lib.{Dec.ltb, ListN.getD};
-ghost use Rattle.model.specs.Verdict.{verdictBy, waits as Verdict·waits, idles as Verdict·idles};
+ghost use lib.Dec.{ltb};
+ghost use Rattle.model.specs.{Verdict.waits as Verdict·waits, Stored.levelOf};
 ghost use Rattle.model.specs.declared.Answer.the-variants.{Ended};
-ghost use Rattle.run_verdict.specs.Verdict.{lacksRoom, CountsFit, countsOf};
+ghost use Rattle.run_verdict.specs.Verdict.{CountsFit, countsAs};
+
+// The level whose turn a letter is.
+pub fn level_of(letter: u8) -> Level
+    ensures { λ r. ⌜ r ≡ levelOf letter ⌝ }
+{
+    if letter == b'L' {
+        Level::Low
+    } else {
+        Level::High
+    }
+}
 
 // A place that can be read: i itself below n, else 0.
 pub fn readable(i: usize, n: usize) -> usize
     ensures { λ r. ⌜ r ≡ cond (ltb i n) i 0 ⌝ }
 {
     if i < n { i } else { 0 }
-}
-
-// The letter at a position; 0, which is no letter, where all are used.
-pub fn letter_at(turns: &[u8], at: usize) -> u8
-    ensures { λ r. ⌜ r ≡ getD (now (turns .entry)) at 0 ⌝ }
-{
-    if at < turns.len() { turns[at] } else { 0 }
-}
-
-// Whether the letter is an L whose command is a send, and fewer bytes are left than a line needs.
-pub fn lacks_room(letter: u8, call: Call, spare: usize, need: usize) -> bool
-    ensures { λ r. ⌜ r ≡ lacksRoom letter call spare need ⌝ }
-{
-    if letter != b'L' {
-        return false;
-    }
-    match call {
-        Call::Neither => false,
-        Call::Receives => false,
-        Call::Sends => spare < need,
-    }
-}
-
-// The table of endings, in its order.
-pub fn verdict(stopped: bool, used: bool, full: bool) -> Verdict
-    ensures { λ r. ⌜ r ≡ verdictBy stopped used full ⌝ }
-{
-    if stopped {
-        return Verdict::Ends(Ending::Stopped);
-    }
-    if used {
-        return Verdict::Ends(Ending::LettersUsed);
-    }
-    if full {
-        return Verdict::Ends(Ending::NoRoom);
-    }
-    Verdict::GoesOn
 }
 
 // The message lines taken after a receive.
@@ -63,35 +38,25 @@ pub fn taken_after(taken: usize, lines: usize) -> usize
     if taken < lines { taken + 1 } else { taken }
 }
 
-// Whether the high execution waits at its call: the low one has made no more calls than it.
-fn waits(call: Call, low: usize, high: usize) -> bool
-    ensures { λ r. ⌜ r ≡ Verdict·waits call low high ⌝ }
+// Whether an execution that follows waits at its call: the one that leads has made no more calls than it.
+pub fn waits(call: Call, first: usize, own: usize) -> bool
+    ensures { λ r. ⌜ r ≡ Verdict·waits call first own ⌝ }
 {
     match call {
         Call::Neither => false,
-        Call::Receives => low <= high,
-        Call::Sends => low <= high,
+        Call::Receives => first <= own,
+        Call::Sends => first <= own,
     }
-}
-
-// Whether the high execution's turn passes idle.
-pub fn idles(stopped: bool, call: Call, low: usize, high: usize) -> bool
-    ensures { λ r. ⌜ r ≡ Verdict·idles stopped call low high ⌝ }
-{
-    if stopped {
-        return true;
-    }
-    waits(call, low, high)
 }
 
 // The answer of a run that ends so.
-pub fn ended(e: Ending, positions: usize, steps: usize, bytes: usize, taken: usize) -> Answer
-    requires { ⌜ CountsFit positions steps bytes taken ⌝ }
-    ensures { λ r. ⌜ r ≡ Ended e (countsOf positions steps bytes taken) ⌝ }
+pub fn ended(e: Ending, clock: Clock, bytes: usize, taken: usize) -> Answer
+    requires { ⌜ CountsFit clock bytes taken ⌝ }
+    ensures { λ r. ⌜ r ≡ Ended e (countsAs clock bytes taken) ⌝ }
 {
     let counts = Counts {
-        positions: positions as u32,
-        steps: steps as u32,
+        positions: clock.positions as u32,
+        steps: clock.steps as u32,
         bytes: bytes as u32,
         taken: taken as u32,
     };

@@ -1,34 +1,436 @@
--- The job's arrays, taken apart and handed on. That the counts fit them follows from the limits of an accepted sheet.
-use mathlib.Core.Path.{sym, _∙_}
-use native.Mathlib.Omega.{arith}
-use borrow.Author.Needs.{needs}
-use lib.{ListN.take, ListN.length-map, Seq.length-take-le}
-use Rattle.model.specs.Stored.{jobOf, keyIn, entriesIn}
-use Rattle.model.proofs.Stored.{first-count}
+-- The loop keeps what `Inv` of proofs/Loop.antt says; every turn cites the law of its kind, and each ending the test that finds it.
+use Prim.Native.Nat.{ℕ, _+_, _-_, _*_, _<_, _≤_}
+use mathlib.Core.Path.{_≡_, refl, sym, ap, ap₂, _∙_}
+use mathlib.Core.Bool.{false}
+use mathlib.Core.List.{List, []}
+use native.Mathlib.{Omega.arith, Nat.add-zero}
+use borrow.Author.{Needs.needs, Needs.sfits-of, Tests.lt-ltb, Tests.le-ltb}
+use lib.{IntN.ℤ, ListN.length, ListN.getD}
+use mir.{Syntax.w32, Val.toZ, Val.ofZ, Val.SFits, ValLaws.toZ-ofZ}
+use Rattle.model.specs.{Step.begun, Step.variable, Step.afterOf, Step.effectOf, Step.callOf, Step.callsBy, Limits.variables, Stored.keyCapacity, Stored.messageCapacity, Stored.levelOf, Accepted.Within, State.ticked, Verdict.short, Verdict.waits, Verdict.verdictBy, Run.runJob, Answer.left, Answer.leftBy}
+use Rattle.model.specs.Stored as Stored
+use Rattle.model.specs.declared.{Command.Command, Call.Call, Level.Level, Execution.Execution, Clock.Clock, StoredJob.StoredJob, Answer.Answer, Answer.the-variants.Ended}
+use Rattle.model.specs.declared.Ending.the-variants.{Stopped, NoRoom}
+use Rattle.model.specs.declared.Call.the-variants.{Neither, Receives, Sends}
+use Rattle.model.specs.declared.Level.the-variants.{Low, High}
+use Rattle.run_step.proofs.Laws.{changedBy}
+use Rattle.run_verdict.specs.Verdict.{countsAs}
+use Rattle.run_job.specs.{Held.Held, Held.withTaken, Held.withMessage, Held.withBytes, Held.withClock, Turn.Turned}
+use Rattle.run_job.proofs.{Views.commandAt, Views.Ready, Views.few, Views.below-or-first, Views.operands-at, Loop.Kept, Loop.Inv, Loop.begins, Loop.Small, Loop.small, Loop.same-length, Loop.counts-fit, Loop.ends}
+use Rattle.run_job.proofs.{Loop.found-used, Loop.found-stopped, Loop.found-by, Loop.again, Loop.short-neither, Loop.short-receives, Loop.short-sends, Turn.commanded, Turn.calledBy, Turn.receive-turn, Turn.send-turn, Turn.command-turn}
+use Rattle.run_job.proofs.{Turn.idle-at-end, Turn.idle-waiting}
 use Rattle.run_job.proofs.run_job.Statement.{statement}
 use Rattle.run_job.proofs.run_job.Tie as tie
 
-slice-aggregate-run-turns : tie.Need-slice-aggregate-run-turns
-slice-aggregate-run-turns c = sym (length-take-le _ _ (c .before .before .before .before .before .before .pre .1 .turns))
+abbrev Inv-loop : tie.InvT-loop
+Inv-loop out₀ job keys secrets count line-bytes low₀ high₀ message₀ clock₀ bytes₀ taken₀ out low high message clock bytes taken =
+    Inv job out₀ (record { low = low; high = high; message = message; taken = taken; bytes = bytes; clock = clock }) out
 
-run-turns-requires : tie.Need-run-turns-requires
-unfolding jobOf
-run-turns-requires c κs =
-    let s = c .before .before .before .before .before .before .before in
-    let j = s .args .job in
-    let sound = s .pre .0 in
-    let stored = s .pre .1 in
-    let lines = length-map (take (j .«message_count») (j .messages)) (entriesIn (j .keys)) ∙ length-take-le (j .«message_count») (j .messages) (stored .messages) in
-    record {
-      sound = sound;
-      keys-fit = omega (arith, sound .mostKeys, first-count keyIn (j .keys) (j .secrets) (stored .keys));
-      commands-fit = omega (arith, sound .mostCommands, length-take-le (j .«command_count») (j .commands) (stored .commands));
-      lines-fit = omega (arith, sound .mostMessages, lines);
-    }
+abbrev μ-loop : tie.MeasureT-loop
+μ-loop out₀ job keys secrets count line-bytes low₀ high₀ message₀ clock₀ bytes₀ taken₀ out low high message clock bytes taken =
+    job .«turn_count» - clock .positions
 
-returns : tie.Need-returns
-unfolding jobOf
-returns c = c .before .before .run-turns .ensures
+-- ---- The points of the code: each from the next one that an answer names. A new statement moves one of these lines.
+
+abbrev callerOf : tie.At-loop Inv-loop μ-loop → tie.Start Inv-loop μ-loop
+callerOf c = c .before .before .before .before .before .before .before
+
+abbrev jobOf : tie.At-loop Inv-loop μ-loop → StoredJob
+jobOf c = callerOf c .args .t1
+
+abbrev heldAt : tie.At-loop Inv-loop μ-loop → Held
+heldAt c = record { low = c .loop .low; high = c .loop .high; message = c .loop .message; taken = c .loop .taken; bytes = c .loop .bytes; clock = c .loop .clock }
+
+abbrev loopOf : tie.After-level-of Inv-loop μ-loop → tie.At-loop Inv-loop μ-loop
+loopOf c = c .before .before .before
+
+ready : (c : tie.At-loop Inv-loop μ-loop) → Ready (jobOf c)
+ready c = callerOf c .pre
+
+loop-holds : tie.Need-loop-holds Inv-loop μ-loop
+loop-holds c =
+    let cleared = c .before in
+    let high = cleared .before in
+    let low = high .before in
+    let start = low .before .before .before in
+    record { kept = begins (start .pre) _ _ _ _ _ (low .begun .ensures) (high .begun2 .ensures) (cleared .cleared .ensures) (c .started .ensures); live = omega (arith, ap (λ (x : Execution). x .place) (low .begun .ensures), few (start .pre) .some) }
+
+-- ---- What the code counts stays small
+
+small-at : (c : tie.At-loop Inv-loop μ-loop) → Small (ready c) (c .loop .inv .kept)
+small-at c = small (ready c) (c .loop .inv .kept)
+
+ticks : (c : tie.At-loop Inv-loop μ-loop) → (c .loop .clock .positions < 4294967296) × (c .loop .clock .steps < 4294967296)
+ticks c = (omega (arith, small-at c .positions), omega (arith, small-at c .steps))
+
+calls-low : (c : tie.At-loop Inv-loop μ-loop) → (c .loop .low .place < 4294967296) × (c .loop .low .calls < 4294967296)
+calls-low c = (omega (arith, c .loop .inv .live, few (ready c) .commands), omega (arith, small-at c .calls Low))
+
+-- ---- Whose turn it is
+
+more : (c : tie.After-level-of Inv-loop μ-loop) → loopOf c .loop .clock .positions < jobOf (loopOf c) .«turn_count»
+more c = omega (arith, c .before .before .if1 .left)
+
+level-is : (c : tie.After-level-of Inv-loop μ-loop) → levelOf (getD (jobOf (loopOf c) .turns) (loopOf c .loop .clock .positions) 0) ≡ c .level-of .result
+level-is c = sym (c .level-of .ensures)
+
+-- a turn leaves fewer letters
+fewer : (c : tie.After-level-of Inv-loop μ-loop) (l : Level) (t : Clock) → t ≡ ticked l (loopOf c .loop .clock)
+    → jobOf (loopOf c) .«turn_count» - t .positions < jobOf (loopOf c) .«turn_count» - loopOf c .loop .clock .positions
+fewer c l t e = omega (arith, more c, ap (λ (d : Clock). d .positions) e)
+
+-- all letters are used
+ended-requires : tie.Need-ended-requires Inv-loop μ-loop
+ended-requires c κs = let l = c .before in counts-fit (ready l) (l .loop .inv .kept)
+
+returns : tie.Need-returns Inv-loop μ-loop
+returns c =
+    let l = c .before .before in
+    let i = l .loop .inv in
+    ends (ready l) (i .kept) _ (found-used (ready l) (i .kept) (i .live) (c .before .if1 .taken)) (c .ended .result) (c .ended .ensures)
+
+-- ---- Low turns
+
+abbrev lowLetter : tie.After-enum-told Inv-loop μ-loop → tie.After-level-of Inv-loop μ-loop
+lowLetter c = c .before .before
+
+abbrev lowLoop : tie.After-enum-told Inv-loop μ-loop → tie.At-loop Inv-loop μ-loop
+lowLoop c = loopOf (lowLetter c)
+
+isLow : (c : tie.After-enum-told Inv-loop μ-loop) → levelOf (getD (jobOf (lowLoop c) .turns) (lowLoop c .loop .clock .positions) 0) ≡ Low
+isLow c = level-is (lowLetter c) ∙ c .enum-told .given .1
+
+operands-low : (c : tie.After-enum-told Inv-loop μ-loop) → let l = lowLoop c in Within (jobOf l .keys) (jobOf l .«command_count») (commandAt (jobOf l .commands) (l .loop .low .place))
+operands-low c = let l = lowLoop c in operands-at (ready l) (l .loop .low .place) (l .loop .inv .live)
+
+-- the low execution's turn, and what it leaves; whether it stops is tested last
+module _ (c : tie.After-enum-told Inv-loop μ-loop) where
+  abbrev l : tie.At-loop Inv-loop μ-loop
+  l = lowLoop c
+
+  abbrev Low-kept : Held → List ℕ → Type 0
+  Low-kept h out = Kept (jobOf l) (callerOf l .args .out .now) h out
+
+  goes-on : {k : Call} → callOf (commandAt (jobOf l .commands) (l .loop .low .place) .op) ≡ k → short k (length (l .loop .out) - l .loop .bytes) (10 + 12 * jobOf l .keys) ≡ false
+      → {h : Held} {out : List ℕ} → Turned (jobOf l) Low (l .loop .inv .kept .sent) (heldAt l) h (l .loop .out) out → Low-kept h out
+  goes-on call roomy t =
+      again (ready l) (l .loop .inv .kept) (l .loop .inv .live) (more (lowLetter c)) Low (isLow c) (ap (λ (k : Call). short k (length (l .loop .out) - l .loop .bytes) (10 + 12 * jobOf l .keys)) call ∙ roomy) t
+
+  stops : {h : Held} {out : List ℕ} → Low-kept h out → jobOf l .«command_count» ≤ h .low .place → (a : Answer) → a ≡ Ended Stopped (countsAs (h .clock) (h .bytes) (h .taken))
+      → left a out ≡ leftBy (callerOf l .args .out .now) (runJob (Stored.jobOf (jobOf l)) (length (callerOf l .args .out .now)))
+  stops k end a ea = ends (ready l) k Stopped (found-stopped (ready l) k end) a ea
+
+-- a receive
+abbrev receiveOf : tie.After-ticked Inv-loop μ-loop → tie.After-enum-told2 Inv-loop μ-loop
+receiveOf c = c .before .before .before .before .before .before
+
+abbrev receiveLow : tie.After-enum-told2 Inv-loop μ-loop → tie.After-enum-told Inv-loop μ-loop
+receiveLow c = c .before .before .before .before
+
+line-below : (c : tie.After-readable Inv-loop μ-loop) → c .readable .result < messageCapacity
+line-below c = let l = lowLoop (receiveLow (c .before)) in below-or-first _ _ _ messageCapacity (c .readable .ensures) (few (ready l) .messages) (omega arith)
+
+after-receive : (c : tie.After-ticked Inv-loop μ-loop) →
+    let n = c .before .before in
+    let low = receiveLow (receiveOf c) in
+    Low-kept low (calledBy (c .before .called .result) (c .ticked .result) (withTaken (n .taken-after .result) (withMessage (n .before .receive .result) (heldAt (lowLoop low))))) (lowLoop low .loop .out)
+after-receive c =
+    let n = c .before .before in
+    let m = n .before in
+    let t = receiveOf c in
+    let low = receiveLow t in
+    let l = lowLoop low in
+    let call = sym (t .before .before .call-of .ensures) ∙ t .enum-told2 .given .1 in
+    goes-on low call (short-receives _ _)
+    (receive-turn (ready l) (l .loop .inv .kept .sent) (heldAt l) (l .loop .inv .live) (c .ticked .result) (c .ticked .ensures) (c .before .called .result) (c .before .called .ensures)
+    call (m .before .before .readable .result) (record { slots = [] }) (m .before .before .readable .ensures) (m .receive .result) (m .receive .ensures) (n .taken-after .result) (n .taken-after .ensures) _)
+
+-- a send
+abbrev sendLow : tie.After-enum-told3 Inv-loop μ-loop → tie.After-enum-told Inv-loop μ-loop
+sendLow c = c .before .before .before .before
+
+abbrev roomOf : tie.After-write-line Inv-loop μ-loop → tie.Else3 Inv-loop μ-loop
+roomOf c = c .before .before
+
+abbrev writeOf : tie.After-ticked2 Inv-loop μ-loop → tie.After-write-line Inv-loop μ-loop
+writeOf c = c .before .before .before .before
+
+call-send : (c : tie.After-enum-told3 Inv-loop μ-loop) → let l = lowLoop (sendLow c) in callOf (commandAt (jobOf l .commands) (l .loop .low .place) .op) ≡ Sends
+call-send c = sym (c .before .before .call-of .ensures) ∙ c .enum-told3 .given .1
+
+-- there is no room for its line
+returns-3 : tie.Need-returns-3 Inv-loop μ-loop
+returns-3 c =
+    let e = c .before .before in
+    let low = sendLow e in
+    let l = lowLoop low in
+    let i = l .loop .inv in
+    let full = ap (λ (k : Call). short k (length (l .loop .out) - l .loop .bytes) (10 + 12 * jobOf l .keys)) (call-send e) ∙ short-sends _ _ ∙ lt-ltb _ _ (c .before .if3 .taken) in
+    ends (ready l) (i .kept) NoRoom (found-by (ready l) (i .kept) (i .live) (more (lowLetter low)) Low (isLow low) ∙ ap (verdictBy false false) full) (c .ended3 .result) (c .ended3 .ensures)
+
+write-line-requires : tie.Need-write-line-requires Inv-loop μ-loop
+write-line-requires c κs =
+    let e = c .before .before in
+    let l = lowLoop (sendLow e) in
+    (omega (arith, small-at l .positions), record { few = few (ready l) .keys; room = omega (arith, small-at l .room, c .before .if3 .left) })
+
+after-send : (c : tie.After-ticked2 Inv-loop μ-loop) →
+    let w = writeOf c in
+    let low = sendLow (roomOf w .before) in
+    let h = heldAt (lowLoop low) in
+    Low-kept low (calledBy (c .before .called2 .result) (c .ticked2 .result) (withBytes (h .bytes + (10 + 12 * jobOf (lowLoop low) .keys)) h)) (w .write-line .last .0)
+after-send c =
+    let w = writeOf c in
+    let e = roomOf w .before in
+    let low = sendLow e in
+    let l = lowLoop low in
+    goes-on low (call-send e) (short-sends _ _ ∙ le-ltb _ _ (roomOf w .if3 .left))
+    (send-turn (ready l) (l .loop .inv .kept .sent) (heldAt l) (l .loop .inv .live) (c .ticked2 .result) (c .ticked2 .ensures) (c .before .called2 .result) (c .before .called2 .ensures)
+    (call-send e) (10 + 12 * jobOf l .keys) refl _ _ (w .write-line .ensures))
+
+-- a command that is no call
+abbrev commandLow : tie.After-enum-told4 Inv-loop μ-loop → tie.After-enum-told Inv-loop μ-loop
+commandLow c = c .before .before .before .before
+
+-- the places that its operands name
+abbrev operandsOf : tie.After-index3 Inv-loop μ-loop → tie.After-enum-told4 Inv-loop μ-loop
+operandsOf c = c .before .before .before .before
+
+key-low : (c : tie.After-index Inv-loop μ-loop) → c .index .result < keyCapacity
+key-low c = let low = commandLow (c .before) in omega (arith, c .index .ensures, operands-low low .k, few (ready (lowLoop low)) .keys)
+
+v-low : (c : tie.After-index2 Inv-loop μ-loop) → c .index2 .result < variables
+v-low c = omega (arith, c .index2 .ensures, operands-low (commandLow (c .before .before .before)) .v)
+
+w-low : (c : tie.After-index3 Inv-loop μ-loop) → c .index3 .result < variables
+w-low c = omega (arith, c .index3 .ensures, operands-low (commandLow (operandsOf c)) .w)
+
+abbrev effectLow : tie.After-struct-told Inv-loop μ-loop → tie.After-index3 Inv-loop μ-loop
+effectLow c = c .before .before .before .before .before
+
+abbrev keyLow : tie.After-with Inv-loop μ-loop → tie.After-index Inv-loop μ-loop
+keyLow c = effectLow (c .before .before .before) .before .before .before
+
+value-low : (c : tie.After-struct-told Inv-loop μ-loop) → toZ w32 (ofZ w32 (c .before .effect-at .result .value)) ≡ c .before .effect-at .result .value
+value-low c = toZ-ofZ w32 (c .before .effect-at .result .value) (search needs)
+
+held-low : (c : tie.After-holds Inv-loop μ-loop) → toZ w32 (ofZ w32 (c .holds .result)) ≡ c .holds .result
+held-low c = toZ-ofZ w32 (c .holds .result) (search needs)
+
+abbrev toldLow : tie.After-ticked3 Inv-loop μ-loop → tie.After-struct-told Inv-loop μ-loop
+toldLow c = c .before .before .before .before
+
+after-command : (c : tie.After-ticked3 Inv-loop μ-loop) →
+    let z = c .before .before in
+    let o = effectLow (toldLow c) in
+    let low = commandLow (operandsOf o) in
+    let h = heldAt (lowLoop low) in
+    let x = changedBy (h .low) (o .before .index2 .result) (toZ w32 (ofZ w32 (z .holds .result))) (z .before .after .result) in
+    Low-kept low (commanded Low x (o .before .before .before .index .result) (c .before .with .result) (c .ticked3 .result) h) (lowLoop low .loop .out)
+after-command c =
+    let w = c .before in
+    let z = w .before in
+    let n = z .before in
+    let told = toldLow c in
+    let f = told .before in
+    let o = effectLow told in
+    let iv = o .before in
+    let ik = iv .before .before in
+    let t = operandsOf o in
+    let low = commandLow t in
+    let l = lowLoop low in
+    let x = l .loop .low in
+    let call = sym (t .before .before .call-of .ensures) ∙ t .enum-told4 .given .1 in
+    goes-on low call (short-neither _ _)
+    (command-turn (ready l) (l .loop .inv .kept .sent) (heldAt l) Low (l .loop .inv .live) call
+    _ _ _ (ik .index .ensures) (iv .index2 .ensures) (o .index3 .ensures)
+    _ _ (toZ-ofZ w32 (variable x (iv .index2 .result)) (sfits-of (f .before .before .before .effect-at-arg .given))) (toZ-ofZ w32 (variable x (o .index3 .result)) (sfits-of (f .before .before .effect-at-arg2 .given)))
+    _ (f .before .side .ensures) _ (f .effect-at .ensures) _ (sym (ap (λ (k : Call). x .calls + callsBy k) call ∙ add-zero (x .calls))) _ (value-low told)
+    _ (n .after .ensures) _ (held-low z ∙ z .holds .ensures) _ (w .with .ensures) _ (c .ticked3 .ensures) _)
+
+-- ---- High turns
+
+abbrev highLetter : tie.After-enum-told5 Inv-loop μ-loop → tie.After-level-of Inv-loop μ-loop
+highLetter c = c .before .before
+
+abbrev highLoop : tie.After-enum-told5 Inv-loop μ-loop → tie.At-loop Inv-loop μ-loop
+highLoop c = loopOf (highLetter c)
+
+module _ (c : tie.After-enum-told5 Inv-loop μ-loop) where
+  abbrev high : tie.At-loop Inv-loop μ-loop
+  high = highLoop c
+
+  -- what the high execution's turn leaves; the low one goes on from where it is
+  passes : {h : Held} → Turned (jobOf high) High (high .loop .inv .kept .sent) (heldAt high) h (high .loop .out) (high .loop .out) → h .low ≡ high .loop .low
+      → Inv (jobOf high) (callerOf high .args .out .now) h (high .loop .out)
+  passes t same =
+      let i = high .loop .inv in
+      record {
+        kept = again (ready high) (i .kept) (i .live) (more (highLetter c)) High (level-is (highLetter c) ∙ c .enum-told5 .given .1) refl t;
+        live = omega (arith, i .live, ap (λ (x : Execution). x .place) same);
+      }
+
+loop-again-4 : tie.Need-loop-again-4 Inv-loop μ-loop
+loop-again-4 c =
+    let t = c .before .before in
+    let l = highLoop t in
+    passes t (idle-at-end (ready l) (l .loop .inv .kept .sent) (heldAt l) High refl (c .before .if6 .taken) _ (c .ticked4 .ensures) _) refl
+
+-- the high execution is not at the end
+abbrev highOf : tie.Else6 Inv-loop μ-loop → tie.After-enum-told5 Inv-loop μ-loop
+highOf c = c .before
+
+high-live : (c : tie.Else6 Inv-loop μ-loop) → let l = highLoop (highOf c) in l .loop .high .place < jobOf l .«command_count»
+high-live c = omega (arith, c .if6 .left)
+
+abbrev goingOf : tie.After-waits Inv-loop μ-loop → tie.Else6 Inv-loop μ-loop
+goingOf c = c .before .before .before
+
+waits-is : (c : tie.After-waits Inv-loop μ-loop) →
+    let l = highLoop (highOf (goingOf c)) in
+    waits (callOf (commandAt (jobOf l .commands) (l .loop .high .place) .op)) (l .loop .low .calls) (l .loop .high .calls) ≡ c .waits .result
+waits-is c =
+    let l = highLoop (highOf (goingOf c)) in
+    sym (c .waits .ensures ∙ ap (λ (k : Call). waits k (l .loop .low .calls) (l .loop .high .calls)) (c .before .call-of2 .ensures))
+
+loop-again-5 : tie.Need-loop-again-5 Inv-loop μ-loop
+loop-again-5 c =
+    let w = c .before .before in
+    let g = goingOf w in
+    let l = highLoop (highOf g) in
+    passes (highOf g) (idle-waiting (ready l) (l .loop .inv .kept .sent) (heldAt l) High (high-live g) refl (waits-is w ∙ c .before .if7 .taken) _ (c .ticked5 .ensures) _) refl
+
+abbrev movesOf : tie.After-index6 Inv-loop μ-loop → tie.Else7 Inv-loop μ-loop
+movesOf c = c .before .before .before .before
+
+operands-high : (c : tie.Else7 Inv-loop μ-loop) → let l = highLoop (highOf (goingOf (c .before))) in Within (jobOf l .keys) (jobOf l .«command_count») (commandAt (jobOf l .commands) (l .loop .high .place))
+operands-high c = let g = goingOf (c .before) in let l = highLoop (highOf g) in operands-at (ready l) (l .loop .high .place) (high-live g)
+
+key-high : (c : tie.After-index4 Inv-loop μ-loop) → c .index4 .result < keyCapacity
+key-high c = omega (arith, c .index4 .ensures, operands-high (c .before) .k, few (ready (highLoop (highOf (goingOf (c .before .before))))) .keys)
+
+v-high : (c : tie.After-index5 Inv-loop μ-loop) → c .index5 .result < variables
+v-high c = omega (arith, c .index5 .ensures, operands-high (c .before .before .before) .v)
+
+w-high : (c : tie.After-index6 Inv-loop μ-loop) → c .index6 .result < variables
+w-high c = omega (arith, c .index6 .ensures, operands-high (movesOf c) .w)
+
+abbrev effectHigh : tie.After-struct-told2 Inv-loop μ-loop → tie.After-index6 Inv-loop μ-loop
+effectHigh c = c .before .before .before .before .before .before
+
+abbrev keyHigh : tie.After-with2 Inv-loop μ-loop → tie.After-index4 Inv-loop μ-loop
+keyHigh c = effectHigh (c .before .before .before) .before .before .before
+
+value-high : (c : tie.After-struct-told2 Inv-loop μ-loop) → toZ w32 (ofZ w32 (c .before .before .effect-at2 .result .value)) ≡ c .before .before .effect-at2 .result .value
+value-high c = toZ-ofZ w32 (c .before .before .effect-at2 .result .value) (search needs)
+
+held-high : (c : tie.After-holds2 Inv-loop μ-loop) → toZ w32 (ofZ w32 (c .holds2 .result)) ≡ c .holds2 .result
+held-high c = toZ-ofZ w32 (c .holds2 .result) (search needs)
+
+loop-again-6 : tie.Need-loop-again-6 Inv-loop μ-loop
+loop-again-6 c =
+    let w = c .before in
+    let z = w .before in
+    let n = z .before in
+    let told = n .before in
+    let by = told .before in
+    let f = by .before in
+    let o = effectHigh told in
+    let iv = o .before in
+    let ik = iv .before .before in
+    let e = movesOf o in
+    let g = goingOf (e .before) in
+    let l = highLoop (highOf g) in
+    let x = l .loop .high in
+    passes (highOf g)
+    (command-turn (ready l) (l .loop .inv .kept .sent) (heldAt l) High (high-live g) (waits-is (e .before) ∙ e .if7 .left)
+    _ _ _ (ik .index4 .ensures) (iv .index5 .ensures) (o .index6 .ensures)
+    _ _ (toZ-ofZ w32 (variable x (iv .index5 .result)) (sfits-of (f .before .before .before .effect-at-arg3 .given))) (toZ-ofZ w32 (variable x (o .index6 .result)) (sfits-of (f .before .before .effect-at-arg4 .given)))
+    _ (f .before .side2 .ensures) _ (f .effect-at2 .ensures) _ (ap (λ (m : ℕ). x .calls + m) (by .calls-by .ensures .0 ∙ ap callsBy (e .before .before .call-of2 .ensures))) _ (value-high told)
+    _ (n .after2 .ensures) _ (held-high z ∙ z .holds2 .ensures) _ (w .with2 .ensures) _ (c .ticked6 .ensures) _)
+    refl
+
+-- ---- All of it
 
 pub run-job-spec : {M : Type 1} → statement M
-run-job-spec = tie.close (tie.spec (λ c. search needs) slice-aggregate-run-turns run-turns-requires (λ c. search needs) returns)
+run-job-spec =
+    tie.close
+    (tie.spec
+    Inv-loop
+    μ-loop
+    (λ c. omega (arith, few (c .before .before .pre) .keys)) (λ c. omega (arith, few (c .before .before .pre) .keys))
+    (λ c κs. search needs) (λ c κs. search needs) (λ c κs. search needs) (λ c κs. search needs)
+    loop-holds
+    ended-requires
+    (λ c. let l = c .before .before in same-length (ready l) (l .loop .inv .kept))
+    returns
+    (λ c. omega (arith, few (ready (c .before)) .letters, c .if1 .left))
+    (λ c κs. search needs) (λ c. search needs)
+    (λ c. omega (arith, lowLoop c .loop .inv .live, few (ready (lowLoop c)) .commands)) (λ c. omega (arith, lowLoop c .loop .inv .live, few (ready (lowLoop c)) .commands))
+    (λ c κs. search needs) (λ c. search needs) (λ c κs. search needs)
+    (λ c. omega (arith, line-below c)) (λ c. omega (arith, line-below c))
+    (λ c κs. few (ready (lowLoop (receiveLow (c .before .before)))) .keys)
+    (λ c κs. search needs)
+    (λ c κs. calls-low (lowLoop (receiveLow (c .before .before .before .before))))
+    (λ c κs. ticks (lowLoop (receiveLow (c .before .before .before .before .before))))
+    (λ c κs. let t = c .before in counts-fit (ready (lowLoop (receiveLow (receiveOf t)))) (after-receive t))
+    (λ c. let t = c .before .before in same-length (ready (lowLoop (receiveLow (receiveOf t)))) (after-receive t))
+    (λ c. let t = c .before .before in stops (receiveLow (receiveOf t)) (after-receive t) (c .before .if2 .taken) (c .ended2 .result) (c .ended2 .ensures))
+    (λ c. let t = c .before in fewer (lowLetter (receiveLow (receiveOf t))) Low _ (t .ticked .ensures))
+    (λ c. record { kept = after-receive (c .before); live = omega (arith, c .if2 .left) })
+    (λ c. search needs)
+    (λ c. omega (arith, small-at (lowLoop (sendLow c)) .room))
+    (λ c κs. let l = lowLoop (sendLow (c .before)) in counts-fit (ready l) (l .loop .inv .kept))
+    (λ c. let l = lowLoop (sendLow (c .before .before)) in same-length (ready l) (l .loop .inv .kept))
+    returns-3
+    write-line-requires
+    (λ c. omega (arith, small-at (lowLoop (sendLow (roomOf (c .before .before) .before))) .bytes, few (ready (lowLoop (sendLow (roomOf (c .before .before) .before)))) .keys))
+    (λ c κs. calls-low (lowLoop (sendLow (roomOf (c .before .before) .before))))
+    (λ c κs. ticks (lowLoop (sendLow (roomOf (c .before .before .before) .before))))
+    (λ c κs. let t = c .before in counts-fit (ready (lowLoop (sendLow (roomOf (writeOf t) .before)))) (after-send t))
+    (λ c. let t = c .before .before in same-length (ready (lowLoop (sendLow (roomOf (writeOf t) .before)))) (after-send t))
+    (λ c. let t = c .before .before in stops (sendLow (roomOf (writeOf t) .before)) (after-send t) (c .before .if4 .taken) (c .ended4 .result) (c .ended4 .ensures))
+    (λ c. let t = c .before in fewer (lowLetter (sendLow (roomOf (writeOf t) .before))) Low _ (t .ticked2 .ensures))
+    (λ c. record { kept = after-send (c .before); live = omega (arith, c .if4 .left) })
+    (λ c. search needs) (λ c κs. search needs)
+    (λ c. omega (arith, key-low c)) (λ c. omega (arith, key-low c)) (λ c κs. search needs) (λ c κs. search needs)
+    (λ c. omega (arith, v-low (c .before))) (λ c. omega (arith, v-low (c .before)))
+    (λ c. omega (arith, w-low (c .before))) (λ c. omega (arith, w-low (c .before)))
+    (λ c κs. search needs)
+    (λ c κs. lowLoop (commandLow (operandsOf (c .before .before .before))) .loop .inv .live)
+    (λ c κs. v-low (effectLow c .before))
+    (λ c κs. v-low (effectLow (c .before) .before))
+    (λ c. omega (arith, v-low (effectLow (c .before .before) .before))) (λ c. omega (arith, v-low (effectLow (c .before .before) .before)))
+    (λ c κs. search needs)
+    (λ c. omega (arith, key-low (keyLow c))) (λ c. omega (arith, key-low (keyLow c)))
+    (λ c κs. ticks (lowLoop (commandLow (keyLow c .before))))
+    (λ c κs. let t = c .before in counts-fit (ready (lowLoop (commandLow (keyLow (t .before) .before)))) (after-command t))
+    (λ c. let t = c .before .before in same-length (ready (lowLoop (commandLow (keyLow (t .before) .before)))) (after-command t))
+    (λ c. let t = c .before .before in stops (commandLow (keyLow (t .before) .before)) (after-command t) (c .before .if5 .taken) (c .ended5 .result) (c .ended5 .ensures))
+    (λ c. let t = c .before in fewer (lowLetter (commandLow (keyLow (t .before) .before))) Low _ (t .ticked3 .ensures))
+    (λ c. record { kept = after-command (c .before); live = omega (arith, c .if5 .left) })
+    (λ c. search needs)
+    (λ c κs. ticks (highLoop (c .before)))
+    (λ c. fewer (highLetter (c .before .before)) High _ (c .ticked4 .ensures))
+    loop-again-4
+    (λ c. omega (arith, high-live c, few (ready (highLoop (highOf c))) .commands)) (λ c. omega (arith, high-live c, few (ready (highLoop (highOf c))) .commands))
+    (λ c κs. search needs) (λ c κs. search needs)
+    (λ c κs. ticks (highLoop (highOf (goingOf (c .before)))))
+    (λ c. fewer (highLetter (highOf (goingOf (c .before .before)))) High _ (c .ticked5 .ensures))
+    loop-again-5
+    (λ c κs. search needs)
+    (λ c. omega (arith, key-high c)) (λ c. omega (arith, key-high c)) (λ c κs. search needs) (λ c κs. search needs)
+    (λ c. omega (arith, v-high (c .before))) (λ c. omega (arith, v-high (c .before)))
+    (λ c. omega (arith, w-high (c .before))) (λ c. omega (arith, w-high (c .before)))
+    (λ c κs. search needs)
+    (λ c κs. high-live (goingOf (movesOf (c .before .before .before) .before)))
+    (λ c κs. search needs)
+    (λ c. omega (arith, c .calls-by .ensures .1, small-at (highLoop (highOf (goingOf (movesOf (c .before .before .before .before .before) .before)))) .calls High))
+    (λ c κs. v-high (effectHigh c .before))
+    (λ c κs. v-high (effectHigh (c .before) .before))
+    (λ c. omega (arith, v-high (effectHigh (c .before .before) .before))) (λ c. omega (arith, v-high (effectHigh (c .before .before) .before)))
+    (λ c κs. search needs)
+    (λ c. omega (arith, key-high (keyHigh c))) (λ c. omega (arith, key-high (keyHigh c)))
+    (λ c κs. ticks (highLoop (highOf (goingOf (keyHigh c .before .before)))))
+    (λ c. fewer (highLetter (highOf (goingOf (keyHigh (c .before) .before .before)))) High _ (c .ticked6 .ensures))
+    loop-again-6)

@@ -1,0 +1,35 @@
+-- The laws of levels: all that depends on how many there are.
+use mathlib.Core.Path.{_≡_, refl, subst}
+use mathlib.Core.Logic.{_≢_}
+use Rattle.model.specs.State.{Process, Processes, at, put, each}
+use Rattle.model.specs.Data.{Level, Low, High}
+
+abbrev isLow : Level → Type 0
+isLow Low = Unit {0}
+isLow High = ⊥
+
+pub low≢high : Low ≢ High
+low≢high e = subst isLow e tt
+
+-- the process of level m after a change of level l: the new one where they are one level, else as before
+pub data Changed (l m : Level) : Type 0 where
+  same : l ≡ m → ((p : Process) (ps : Processes) → at m (put l p ps) ≡ p) → Changed l m
+  other : ((p : Process) (ps : Processes) → at m (put l p ps) ≡ at m ps) → Changed l m
+
+pub changed : (l m : Level) → Changed l m
+unfolding at put
+changed Low Low = same refl (λ p ps. refl)
+changed Low High = other (λ p ps. refl)
+changed High Low = other (λ p ps. refl)
+changed High High = same refl (λ p ps. refl)
+
+pub at-each : (f : Level → Process → Process) (l : Level) (ps : Processes) → at l (each f ps) ≡ f l (at l ps)
+unfolding at each
+at-each f Low ps = refl
+at-each f High ps = refl
+
+-- a level's own process, put back
+pub put-at : (l : Level) (ps : Processes) → put l (at l ps) ps ≡ ps
+unfolding at put
+put-at Low ps = refl
+put-at High ps = refl

@@ -1,0 +1,119 @@
+-- The laws of one turn: what each kind of turn makes of a state, of any state and by the level whose turn it is.
+use Prim.Native.Nat.{ℕ, _+_}
+use mathlib.Core.Path.{_≡_, refl, sym, ap, ap₂, _∙_}
+use mathlib.Core.Bool.{Bool, true, false, cond}
+use mathlib.Core.List.{List}
+use native.Mathlib.Omega.{arith}
+use lib.{IntN.ℤ, IntN.pos, ListN.length, ListN.getD, Seq.set-getD}
+use Rattle.model.specs.{Step.variable, Step.calledOf, Step.made, Step.effectBy, Step.steppedBy, Step.does, Step.callOf, Step.callsBy, State.Process, State.Processes}
+use Rattle.model.specs.{State.entry, State.stored, State.step, State.command, State.stopped, State.Role, State.leads, State.follows, State.role, State.leader, State.ticked, State.State}
+use Rattle.model.specs.{State.process, State.withProcess, Message.receive, Message.send, Verdict.idles, Run.share, Run.lead, Run.followed, Run.follow, Run.moved, Run.counted, Run.turn}
+use Rattle.model.specs.Data.{Entry, Absent, Key, Op, Set, Add, Sub, Mul, Div, Read, Has, Put, Drop, IfNeg, IfZero, Jump, Receive, Send, Stop, Command, Call, Neither}
+use Rattle.model.specs.Data.{Receives, Sends, Level, Low, High, Execution}
+use Rattle.model.proofs.Levels.{put-at}
+
+-- ---- Calls
+
+-- a call only moves the execution on
+call-effect : (o : Op) (c : Command) (p : ℕ) (a b : ℤ) (e : Entry) (end : ℕ) → (callOf o ≡ Neither → ⊥) → effectBy o c p a b e end ≡ made (p + 1) a e
+unfolding callOf
+call-effect Set c p a b e end h = absurd (h refl)
+call-effect Add c p a b e end h = absurd (h refl)
+call-effect Sub c p a b e end h = absurd (h refl)
+call-effect Mul c p a b e end h = absurd (h refl)
+call-effect Div c p a b e end h = absurd (h refl)
+call-effect Read c p a b e end h = absurd (h refl)
+call-effect Has c p a b e end h = absurd (h refl)
+call-effect Put c p a b e end h = absurd (h refl)
+call-effect Drop c p a b e end h = absurd (h refl)
+call-effect IfNeg c p a b e end h = absurd (h refl)
+call-effect IfZero c p a b e end h = absurd (h refl)
+call-effect Jump c p a b e end h = absurd (h refl)
+call-effect Receive c p a b e end h = refl
+call-effect Send c p a b e end h = refl
+call-effect Stop c p a b e end h = absurd (h refl)
+
+pub call-does : (c : Command) (x : Execution) (e : Entry) (end : ℕ) (k : Call) → callOf (c .op) ≡ k → callsBy k ≡ 1 → does end c x e ≡ record { execution = calledOf x; entry = e }
+unfolding does
+call-does c x e end k is call =
+    let n : x .calls + callsBy (callOf (c .op)) ≡ x .calls + 1 = ap (λ (m : ℕ). x .calls + m) (ap callsBy is ∙ call) in
+    let effect = call-effect (c .op) c (x .place) (variable x (c .v)) (variable x (c .w)) e end (λ none. omega (arith, sym call ∙ ap callsBy (sym is ∙ none))) in
+    ap₂ (steppedBy x (c .v)) n effect
+    ∙ ap (λ (vs : List ℤ). record { execution = record { place = x .place + 1; vars = vs; calls = x .calls + 1 }; entry = e }) (set-getD (x .vars) (c .v) (pos 0))
+
+-- a process after a call of its own: its fields are as they were
+abbrev pub called : Process → Process
+called p = record { execution = calledOf (p .execution); fields = p .fields }
+
+call-step : (n : ℕ) (c : Command) (p : Process) (k : Call) → callOf (c .op) ≡ k → callsBy k ≡ 1 → step n c p ≡ called p
+unfolding step entry
+call-step n c p k is call =
+    ap (stored p (c .k)) (call-does c (p .execution) (getD (p .fields) (c .k) Absent) n k is call)
+    ∙ ap (λ (l : List Entry). record { execution = calledOf (p .execution); fields = l }) (set-getD (p .fields) (c .k) Absent)
+
+-- ---- Turns
+
+leads-not-follows : leads ≡ follows → ⊥
+leads-not-follows e = let z : _≡_ {A = ℕ} 0 1 = cc in omega arith
+
+module _ (ks : List Key) (cs : List Command) (s : State) where
+  -- the kind of call at which a level's execution stands
+  abbrev pub callAt : Level → Call
+  callAt l = callOf (command cs (process l s) .op)
+
+  -- whether the turn of a level that follows passes idle
+  abbrev pub idlesAt : Level → Bool
+  idlesAt l = idles (stopped cs (process l s)) (callAt l) (process leader s .execution .calls) (process l s .execution .calls)
+
+  -- a level's execution does its command and nothing else: where it leads, no call; where it follows, no idling
+  abbrev pub Alone : Role → Level → Type 0
+  Alone leads l = callAt l ≡ Neither
+  Alone follows l = idlesAt l ≡ false
+
+  -- one command of it
+  abbrev pub stepped : Level → Process
+  stepped l = step (length cs) (command cs (process l s)) (process l s)
+
+  -- a call of the leader, once it has changed the message and the output
+  abbrev led : Call → State
+  led k = let t = share k ks s in counted leader (withProcess leader (step (length cs) (command cs (process leader s)) (process leader t)) t)
+
+  leading : (k : Call) → callAt leader ≡ k → turn ks cs leader s ≡ led k
+  unfolding turn lead
+  leading k e = ap led e
+
+  abbrev followedBy : Level → Bool → State
+  followedBy l b = counted l (withProcess l (cond b (process l s) (stepped l)) s)
+
+  pub turn-alone : (l : Level) → Alone (role l) l → turn ks cs l s ≡ counted l (withProcess l (stepped l) s)
+  unfolding turn follow followed share
+  turn-alone Low e = leading Neither e
+  turn-alone High e = ap (followedBy High) e
+
+  pub turn-idle : (l : Level) → role l ≡ follows → idlesAt l ≡ true → turn ks cs l s ≡ counted l s
+  unfolding turn follow followed
+  turn-idle Low f e = absurd (leads-not-follows f)
+  turn-idle High f e = ap (followedBy High) e ∙ ap (λ (ps : Processes). counted High (record { processes = ps; incoming = s .incoming; outgoing = s .outgoing; clock = s .clock })) (put-at High (s .processes))
+
+  pub turn-receive : callAt leader ≡ Receives → turn ks cs leader s ≡ counted leader (withProcess leader (called (process leader (receive ks s))) (receive ks s))
+  unfolding share
+  turn-receive e = leading Receives e ∙ ap (λ (p : Process). counted leader (withProcess leader p (receive ks s))) (call-step (length cs) (command cs (process leader s)) (process leader (receive ks s)) Receives e refl)
+
+  pub turn-send : callAt leader ≡ Sends → turn ks cs leader s ≡ counted leader (withProcess leader (called (process leader s)) (send ks s))
+  unfolding share send
+  turn-send e = leading Sends e ∙ ap (λ (p : Process). counted leader (withProcess leader p (send ks s))) (call-step (length cs) (command cs (process leader s)) (process leader s) Sends e refl)
+
+  -- every kind of turn moves the clock, and nothing else does
+  pub clock-kept : (r : Role) (l : Level) → moved r ks cs l s .clock ≡ s .clock
+  unfolding lead follow share receive send
+  clock-kept leads l = go (callAt leader)
+    where
+      go : (k : Call) → share k ks s .clock ≡ s .clock
+      go Neither = refl
+      go Receives = refl
+      go Sends = refl
+  clock-kept follows l = refl
+
+  pub turn-clock : (l : Level) → turn ks cs l s .clock ≡ ticked l (s .clock)
+  unfolding turn
+  turn-clock l = ap (ticked l) (clock-kept (role l) l)

@@ -1,0 +1,221 @@
+-- One turn on what a run holds: a law for a command at either level, one for an idle turn, one for each call. None speaks of the rest of the run.
+use Prim.Native.Nat.{ℕ, suc, _+_, _*_, _<_, _≤_}
+use mathlib.Core.Path.{_≡_, refl, sym, ap, ap₂, _∙_}
+use mathlib.Core.Bool.{Bool, true, false, cond}
+use mathlib.Core.List.{List, [], _∷_, _++_, append-nil}
+use native.Mathlib.{Numerals.add-one, Omega.arith, Decide.decLt}
+use lib.{IntN.ℤ, Dec.ltb, Dec.leb, ListN.length, ListN.getD, ListN.drop, ListN.set, ListN.drop-of-length-le, Seq.drop-cons}
+use borrow.Author.Tests.{lt-ltb, le-ltb, lt-leb, le-leb}
+use Rattle.model.specs.{Step.variable, Step.afterOf, Step.calledOf, Step.effectOf, Step.Stepped, Step.steppedBy, Step.does, Step.callOf, Step.callsBy, Stored.keysIn}
+use Rattle.model.specs.{Stored.entriesIn, Stored.side, Stored.withSide, Stored.held, Stored.absentField, Stored.jobOf, State.Process, State.Processes, State.Incoming, State.Sent}
+use Rattle.model.specs.{State.entry, State.stored, State.step, State.command, State.stopped, State.Role, State.leads, State.follows, State.role, State.refill, State.put, State.each}
+use Rattle.model.specs.{State.takenOf, State.takes, State.sends, State.ticked, State.State, State.process, State.fieldsOf, State.withProcess, Message.source, Message.received}
+use Rattle.model.specs.{Message.receive, Message.columns, Message.lineNow, Message.send, Line.lineLength, Line.lineBytes, Line.bytesOf, Verdict.waits, Verdict.idles, Run.counted, Run.turn}
+use Rattle.model.specs.State as State
+use Rattle.model.specs.declared.{Entry.Entry, Entry.the-variants.Absent, Effect.Effect, Field.Field, Key.Key, Command.Command, Call.Call, Level.Level, Execution.Execution}
+use Rattle.model.specs.declared.{Clock.Clock, MessageLine.MessageLine, StoredJob.StoredJob}
+use Rattle.model.specs.declared.Call.the-variants.{Neither, Receives, Sends}
+use Rattle.model.specs.declared.Level.the-variants.{Low, High}
+use Rattle.model.proofs.Turn.{Alone, idlesAt, callAt, turn-alone, turn-idle, turn-receive, turn-send}
+use Rattle.run_step.proofs.Laws.{changedBy, changed-is}
+use Rattle.run_message.specs.Message.{Received}
+use Rattle.run_message.proofs.Laws.{held-set, held-same}
+use Rattle.write_line.specs.{Placed.placed, Line.columnsIn, Line.lineOf}
+use Rattle.write_line.proofs.{Places.placed-nil, Laws.held-at}
+use Rattle.run_job.specs.{Held.Held, Held.recordOf, Held.withRecord, Held.withMessage, Held.withTaken, Held.withBytes, Held.withClock, Held.processOf, Held.stateOf, Turn.Turned}
+use Rattle.run_job.proofs.Views.{commandAt, Ready, keys-count, program-count, lines-count, command-is, operands-at, received-is}
+
+columns-same : (i : ℕ) (ks : List Key) (f g : Level → List Entry) → ((l : Level) → f l ≡ g l) → columns i ks f ≡ columns i ks g
+unfolding columns
+columns-same i [] f g e = refl
+columns-same i (k ∷ ks) f g e =
+    ap₂ (λ (x : Entry) (xs : List Entry). x ∷ xs) (ap (λ (l : List Entry). getD l i Absent) (e (source k))) (columns-same (suc i) ks f g e)
+
+-- what is held after a command of a level's execution: its record x, its entry e at the key k, and the clock
+abbrev pub commanded : Level → Execution → ℕ → Field → Clock → Held → Held
+commanded l x k f c h = withClock c (withRecord l x (withMessage (set (h .message) k f) h))
+
+-- after a call of the leader, which changed of the record only the place and the count of calls
+abbrev pub calledBy : Execution → Clock → Held → Held
+calledBy next c h = withClock c (withRecord Low (record { place = next .place; vars = h .low .vars; calls = next .calls }) h)
+
+module _ {j : StoredJob} (ok : Ready j) (sent : List Sent) (h : Held) where
+  abbrev ks : List Key
+  ks = jobOf j .keys
+
+  abbrev cs : List Command
+  cs = jobOf j .commands
+
+  abbrev here : State
+  here = stateOf j sent h
+
+  pub process-is : (l : Level) → process l here ≡ processOf (j .keys) h l
+  unfolding stateOf State.at
+  process-is Low = refl
+  process-is High = refl
+
+  -- a turn that sends nothing
+  still : (l : Level) (h′ : Held) (m : List ℕ) → turn ks cs l here ≡ stateOf j sent h′ → Turned j l sent h h′ m m
+  unfolding bytesOf
+  still l h′ m e = record { new = []; state = e ∙ ap (λ (xs : List Sent). stateOf j xs h′) (sym (append-nil sent)); memory = sym (placed-nil m (h .bytes)) }
+
+  -- the clock alone goes on
+  clock-only : (l : Level) (c : Clock) → c ≡ ticked l (h .clock) → counted l here ≡ stateOf j sent (withClock c h)
+  unfolding stateOf
+  clock-only Low c e = ap (λ (d : Clock). stateOf j sent (withClock d h)) (sym e)
+  clock-only High c e = ap (λ (d : Clock). stateOf j sent (withClock d h)) (sym e)
+
+  -- a level's own field at a key changed, and its record
+  abbrev changed : Level → Execution → ℕ → Entry → State
+  changed l y k e = counted l (withProcess l (record { execution = y; fields = set (held (j .keys) (h .message) l) k e }) here)
+
+  changed-is-held : (l : Level) (y : Execution) (k : ℕ) (f : Field) (c : Clock) (e : Entry) → k < j .keys → f ≡ withSide l e (getD (h .message) k absentField) → c ≡ ticked l (h .clock)
+      → changed l y k e ≡ stateOf j sent (commanded l y k f c h)
+  unfolding stateOf State.put
+  changed-is-held Low y k f c e below ef ec =
+      let own = held-set (j .keys) (h .message) Low k f below ∙ ap (λ (g : Field). set (held (j .keys) (h .message) Low) k (side Low g)) ef in
+      let other = held-same (j .keys) (h .message) High k f absentField (ap (side High) ef) in
+      rw (own, other, ec)
+  changed-is-held High y k f c e below ef ec =
+      let own = held-set (j .keys) (h .message) High k f below ∙ ap (λ (g : Field). set (held (j .keys) (h .message) High) k (side High g)) ef in
+      let other = held-same (j .keys) (h .message) Low k f absentField (ap (side Low) ef) in
+      rw (own, other, ec)
+
+  module _ (l : Level) where
+    abbrev x : Execution
+    x = recordOf l h
+
+    -- the command at which a level's execution stands
+    abbrev pub commandOf : Command
+    commandOf = commandAt (j .commands) (x .place)
+
+    -- ---- An execution that is at the end idles
+
+    pub idle-at-end : role l ≡ follows → j .«command_count» ≤ x .place → (c : Clock) → c ≡ ticked l (h .clock) → (m : List ℕ) → Turned j l sent h (withClock c h) m m
+    unfolding idles stopped
+    idle-at-end f end c ec m =
+        let at-end : stopped cs (process l here) ≡ true = ap (λ (p : Process). leb (length cs) (p .execution .place)) (process-is l) ∙ le-leb (length cs) (x .place) (omega (arith, program-count ok)) in
+        still l _ m (turn-idle ks cs here l f (ap (λ (b : Bool). idles b (callAt ks cs here l) (process Low here .execution .calls) (process l here .execution .calls)) at-end) ∙ clock-only l c ec)
+
+    module _ (live : x .place < j .«command_count») where
+      pub command-here : command cs (process l here) ≡ commandOf
+      unfolding command
+      command-here = ap (λ (p : Process). commandAt cs (p .execution .place)) (process-is l) ∙ command-is ok (x .place) live
+
+      call-here : callAt ks cs here l ≡ callOf (commandOf .op)
+      call-here = ap (λ (c : Command). callOf (c .op)) command-here
+
+      -- whether it waits is all that idling asks
+      waits-here : idlesAt ks cs here l ≡ waits (callOf (commandOf .op)) (h .low .calls) (x .calls)
+      unfolding idles stopped stateOf State.at
+      waits-here =
+          let going : stopped cs (process l here) ≡ false = ap (λ (p : Process). leb (length cs) (p .execution .place)) (process-is l) ∙ lt-leb (length cs) (x .place) (omega (arith, program-count ok)) in
+          ap₂ (λ (b : Bool) (p : Process). idles b (callAt ks cs here l) (h .low .calls) (p .execution .calls)) going (process-is l)
+          ∙ ap (λ (k : Call). waits k (h .low .calls) (x .calls)) call-here
+
+      pub idle-waiting : role l ≡ follows → waits (callOf (commandOf .op)) (h .low .calls) (x .calls) ≡ true → (c : Clock) → c ≡ ticked l (h .clock) → (m : List ℕ)
+          → Turned j l sent h (withClock c h) m m
+      idle-waiting f w c ec m = still l _ m (turn-idle ks cs here l f (waits-here ∙ w) ∙ clock-only l c ec)
+
+      -- ---- A command
+
+      -- as the code tests it: the leader's command is no call, and another does not wait at it
+      abbrev pub Free : Role → Type 0
+      Free leads = callOf (commandOf .op) ≡ Neither
+      Free follows = waits (callOf (commandOf .op)) (h .low .calls) (x .calls) ≡ false
+
+      alone : (r : Role) → Free r → Alone ks cs here r l
+      alone leads e = call-here ∙ e
+      alone follows e = waits-here ∙ e
+
+      key-below : commandOf .k < j .keys
+      key-below = operands-at ok (x .place) live .k
+
+      -- the model's step of it
+      step-here : (e : Entry) → e ≡ side l (getD (h .message) (commandOf .k) absentField) → (r : Stepped) → r ≡ does (j .«command_count») commandOf x e
+          → step (length cs) (command cs (process l here)) (process l here) ≡ record { execution = r .execution; fields = set (held (j .keys) (h .message) l) (commandOf .k) (r .entry) }
+      unfolding step entry
+      step-here e ee r er =
+          let p = processOf (j .keys) h l in
+          let found = held-at (j .keys) (h .message) l (commandOf .k) key-below ∙ sym ee in
+          ap₂ (λ (c : Command) (q : Process). step (length cs) c q) command-here (process-is l)
+          ∙ ap₂ (λ (n : ℕ) (d : Entry). stored p (commandOf .k) (does n commandOf x d)) (program-count ok) found
+          ∙ ap (stored p (commandOf .k)) (sym er)
+
+      -- the effect of the command in hand, put into the record where it changes, and the entry into the level's field: k, v, w are its operands, a and b
+      -- what its variables hold, y the value that goes to the next record, and z what comes from it
+      pub command-turn : Free (role l) → (k v w : ℕ) → k ≡ commandOf .k → v ≡ commandOf .v → w ≡ commandOf .w
+          → (a b : ℤ) → a ≡ variable x v → b ≡ variable x w → (e : Entry) → e ≡ side l (getD (h .message) k absentField)
+          → (r : Effect) → r ≡ effectOf commandOf (x .place) a b e (j .«command_count»)
+          → (n : ℕ) → n ≡ x .calls + callsBy (callOf (commandOf .op)) → (y : ℤ) → y ≡ r .value
+          → (next : Execution) → next ≡ afterOf x v y (r .place) n → (z : ℤ) → z ≡ variable next v
+          → (f : Field) → f ≡ withSide l (r .entry) (getD (h .message) k absentField) → (c : Clock) → c ≡ ticked l (h .clock) → (m : List ℕ)
+          → Turned j l sent h (commanded l (changedBy x v z next) k f c h) m m
+      unfolding does
+      command-turn free k v w ek ev ew a b ea eb e ee r er n en y ey next enext z ez f ef c ec m =
+          let whole : Stepped = steppedBy x v n r in
+          let effect : ℤ → ℤ → Effect = λ p q. effectOf commandOf (x .place) p q e (j .«command_count») in
+          let effect-is : r ≡ effect (variable x (commandOf .v)) (variable x (commandOf .w)) = er ∙ ap₂ effect (ea ∙ ap (variable x) ev) (eb ∙ ap (variable x) ew) in
+          let does-is : whole ≡ does (j .«command_count») commandOf x e =
+          ap₂ (λ (i : ℕ) (g : Effect). steppedBy x i n g) ev effect-is
+          ∙ ap (λ (i : ℕ). steppedBy x (commandOf .v) i (effect (variable x (commandOf .v)) (variable x (commandOf .w)))) en in
+          let record-is : changedBy x v z next ≡ whole .execution =
+          changed-is x v y (r .place) n next z enext ez ∙ ap (λ (i : ℤ). afterOf x v i (r .place) n) ey in
+          let entry-is = ee ∙ ap (λ (i : ℕ). side l (getD (h .message) i absentField)) ek in
+          still l _ m
+          (turn-alone ks cs here l (alone (role l) free)
+          ∙ ap (λ (p : Process). counted l (withProcess l p here)) (step-here e entry-is whole does-is)
+          ∙ ap₂ (λ (q : Execution) (i : ℕ). changed l q i (r .entry)) (sym record-is) (sym ek)
+          ∙ changed-is-held l (changedBy x v z next) k f c (r .entry) (omega (arith, key-below)) ef ec)
+
+  -- ---- The leader's calls
+
+  -- the record of a call, of which the place and the count are stored
+  called-is : (next : Execution) → next ≡ calledOf (h .low) → record { place = next .place; vars = h .low .vars; calls = next .calls } ≡ calledOf (h .low)
+  called-is next e = ap (λ (y : Execution). record { place = y .place; vars = h .low .vars; calls = y .calls }) e
+
+  module _ (live : h .low .place < j .«command_count») (c : Clock) (ec : c ≡ ticked Low (h .clock)) (next : Execution) (enext : next ≡ calledOf (h .low)) where
+    abbrev lines : ℕ
+    lines = j .«message_count»
+
+    -- the lines that are left once one more is taken, where there is one
+    took : (n : ℕ) → n ≡ cond (ltb (h .taken) lines) (h .taken + 1) (h .taken)
+        → takenOf (drop (h .taken) (jobOf j .messages)) (h .taken) ≡ record { rest = drop n (jobOf j .messages); taken = n }
+    took n en = go (decLt (h .taken) lines)
+      where
+        ms : List (List Entry)
+        ms = jobOf j .messages
+
+        go : Dec (h .taken < lines) → takenOf (drop (h .taken) ms) (h .taken) ≡ record { rest = drop n ms; taken = n }
+        go (yes b) =
+            let below : h .taken < length ms = omega (arith, lines-count ok) in
+            let more : n ≡ h .taken + 1 = en ∙ (rw (lt-ltb _ _ b)) in
+            rw (more, drop-cons ms (h .taken) [] below, add-one)
+        go (no b) =
+            let end : lines ≤ h .taken = omega arith in
+            let none : n ≡ h .taken = en ∙ (rw (le-ltb _ _ end)) in
+            let past : length ms ≤ h .taken = omega (arith, lines-count ok) in
+            rw (none, drop-of-length-le ms past)
+
+    pub receive-turn : callOf (commandOf Low .op) ≡ Receives → (i : ℕ) (d : MessageLine) → i ≡ cond (ltb (h .taken) lines) (h .taken) 0
+        → (m′ : List Field) → Received (j .keys) m′ (keysIn (j .keys) (j .secrets)) (ltb (h .taken) lines) (entriesIn (j .keys) (getD (j .messages) i d))
+        → (n : ℕ) → n ≡ cond (ltb (h .taken) lines) (h .taken + 1) (h .taken) → (m : List ℕ)
+        → Turned j Low sent h (calledBy next c (withTaken n (withMessage m′ h))) m m
+    unfolding stateOf receive takes State.each State.put State.at refill
+    receive-turn is i d ei m′ em n en m =
+        let fields : (l : Level) → received ks (drop (h .taken) (jobOf j .messages)) l ≡ held (j .keys) m′ l = λ l. sym (em l ∙ received-is ok l (h .taken) i d ei) in
+        still Low _ m (turn-receive ks cs here (call-here Low live ∙ is) ∙ rw (fields Low, fields High, took n en, ← ec, ← called-is next enext))
+
+    pub send-turn : callOf (commandOf Low .op) ≡ Sends → (n : ℕ) → n ≡ 10 + 12 * j .keys
+        → (m m′ : List ℕ) → m′ ≡ placed m (h .bytes) (lineBytes (lineOf (h .clock .positions) (columnsIn (j .keys) (j .secrets) (h .message))))
+        → Turned j Low sent h (calledBy next c (withBytes (h .bytes + n) h)) m m′
+    unfolding stateOf send sends lineNow bytesOf lineLength State.put State.at jobOf
+    send-turn is n en m m′ em =
+        let line = lineOf (h .clock .positions) (columnsIn (j .keys) (j .secrets) (h .message)) in
+        let now : lineNow ks here ≡ line = ap (lineOf (h .clock .positions)) (columns-same 0 ks (fieldsOf here) (held (j .keys) (h .message)) (λ l. ap (λ (p : Process). p .fields) (process-is l))) in
+        let need : lineLength ks ≡ n = ap (λ (i : ℕ). 10 + 12 * i) (keys-count ok) ∙ sym en in
+        record {
+          new = line ∷ [];
+          state = turn-send ks cs here (call-here Low live ∙ is) ∙ rw (now, need, ← ec, ← called-is next enext);
+          memory = em ∙ ap (placed m (h .bytes)) (sym (append-nil (lineBytes line)));
+        }

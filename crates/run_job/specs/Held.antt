@@ -1,0 +1,51 @@
+-- What a run holds beside its job, as the code has it, and the state of the model that this is.
+use Prim.Native.Nat.{ℕ}
+use mathlib.Core.List.{List}
+use lib.ListN.{drop}
+use Rattle.model.specs.{State.Process, State.Sent, State.State, Stored.held, Stored.jobOf}
+use Rattle.model.specs.declared.{Field.Field, Level.Level, Execution.Execution, Clock.Clock, StoredJob.StoredJob}
+use Rattle.model.specs.declared.Level.the-variants.{Low, High}
+
+-- The record of each execution, the message, how many lines are taken, the bytes written, the clock
+pub record Held : Type 0 where
+  pub low : Execution
+  pub high : Execution
+  pub message : List Field
+  pub taken : ℕ
+  pub bytes : ℕ
+  pub clock : Clock
+
+-- the record of a level's execution; another in its place
+abbrev pub recordOf : Level → Held → Execution
+recordOf Low h = h .low
+recordOf High h = h .high
+
+abbrev pub withRecord : Level → Execution → Held → Held
+withRecord Low x h = record { low = x; high = h .high; message = h .message; taken = h .taken; bytes = h .bytes; clock = h .clock }
+withRecord High x h = record { low = h .low; high = x; message = h .message; taken = h .taken; bytes = h .bytes; clock = h .clock }
+
+abbrev pub withMessage : List Field → Held → Held
+withMessage m h = record { low = h .low; high = h .high; message = m; taken = h .taken; bytes = h .bytes; clock = h .clock }
+
+abbrev pub withTaken : ℕ → Held → Held
+withTaken n h = record { low = h .low; high = h .high; message = h .message; taken = n; bytes = h .bytes; clock = h .clock }
+
+abbrev pub withBytes : ℕ → Held → Held
+withBytes n h = record { low = h .low; high = h .high; message = h .message; taken = h .taken; bytes = n; clock = h .clock }
+
+abbrev pub withClock : Clock → Held → Held
+withClock c h = record { low = h .low; high = h .high; message = h .message; taken = h .taken; bytes = h .bytes; clock = c }
+
+-- an execution with its own fields, of n keys
+abbrev pub processOf : ℕ → Held → Level → Process
+processOf n h l = record { execution = recordOf l h; fields = held n (h .message) l }
+
+-- the state, where these lines were sent: they stand in the output memory, and a run holds none of them
+unfoldable pub stateOf : StoredJob → List Sent → Held → State
+stateOf j sent h =
+    record {
+      processes = record { low = processOf (j .keys) h Low; high = processOf (j .keys) h High };
+      incoming = record { rest = drop (h .taken) (jobOf j .messages); taken = h .taken };
+      outgoing = record { sent = sent; bytes = h .bytes };
+      clock = h .clock;
+    }
