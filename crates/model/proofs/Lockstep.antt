@@ -125,8 +125,7 @@ module _ (o : Level) (hid : Low ≢ o) (ks : List Key) where
   unfolding send sends lineNow
   send-alike s t h =
       let lines = sent-snoc o ks (h .outgoing .sent) (record { position = ap (λ (c : Clock). c .positions) (h .clock); columns = columns-alike o ks s t h 0 ks }) in
-      let bytes = ap (λ (n : ℕ). n + lineLength ks) (h .outgoing .bytes) in
-      record { processes = h .processes; incoming = h .incoming; outgoing = record { sent = lines; bytes = bytes }; clock = h .clock }
+      record { processes = h .processes; incoming = h .incoming; outgoing = record { sent = lines; bytes = cc (h .outgoing .bytes) }; clock = h .clock }
 
   share-alike : (c : Call) (s t : State) → Like o ks s t → Like o ks (share c ks s) (share c ks t)
   unfolding share

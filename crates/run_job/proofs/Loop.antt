@@ -224,7 +224,8 @@ module _ {j : StoredJob} (ok : Ready j) where
 
 -- ---- What the loop keeps
 
--- besides, the low execution has not stopped: that is tested after each of its turns
+-- besides, the message is as long as it was, and the low execution has not stopped: that is tested after each of its turns
 pub record Inv (j : StoredJob) (out₀ : List ℕ) (h : Held) (out : List ℕ) : Type 0 where
   pub kept : Kept j out₀ h out
+  pub full : length (h .message) ≡ keyCapacity
   pub live : h .low .place < j .«command_count»

@@ -18,7 +18,7 @@ use Rattle.model.specs.declared.Call.the-variants.{Neither, Receives, Sends}
 use Rattle.model.specs.declared.Level.the-variants.{Low, High}
 use Rattle.model.proofs.Turn.{Alone, idlesAt, callAt, turn-alone, turn-idle, turn-receive, turn-send}
 use Rattle.run_step.proofs.Laws.{changedBy, changed-is}
-use Rattle.run_message.specs.Message.{Received}
+use Rattle.run_message.specs.Message.{receivedBy}
 use Rattle.run_message.proofs.Laws.{held-set, held-same}
 use Rattle.write_line.specs.{Placed.placed, Line.columnsIn, Line.lineOf}
 use Rattle.write_line.proofs.{Places.placed-nil, Laws.held-at}
@@ -198,7 +198,7 @@ module _ {j : StoredJob} (ok : Ready j) (sent : List Sent) (h : Held) where
             rw (none, drop-of-length-le ms past)
 
     pub receive-turn : callOf (commandOf Low .op) ≡ Receives → (i : ℕ) (d : MessageLine) → i ≡ cond (ltb (h .taken) lines) (h .taken) 0
-        → (m′ : List Field) → Received (j .keys) m′ (keysIn (j .keys) (j .secrets)) (ltb (h .taken) lines) (entriesIn (j .keys) (getD (j .messages) i d))
+        → (m′ : List Field) → ((l : Level) → held (j .keys) m′ l ≡ receivedBy (j .keys) (keysIn (j .keys) (j .secrets)) (ltb (h .taken) lines) (entriesIn (j .keys) (getD (j .messages) i d)) l)
         → (n : ℕ) → n ≡ cond (ltb (h .taken) lines) (h .taken + 1) (h .taken) → (m : List ℕ)
         → Turned j Low sent h (calledBy next c (withTaken n (withMessage m′ h))) m m
     unfolding stateOf receive takes State.each State.put State.at refill

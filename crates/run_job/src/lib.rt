@@ -7,7 +7,7 @@ use model::Execution;
 use model::Level;
 use model::StoredJob;
 use run_message::cleared;
-use run_message::receive;
+use run_message::received;
 use run_step::call_of;
 use run_step::calls_by;
 use run_step::effect_at;
@@ -17,7 +17,9 @@ use run_verdict::level_of;
 use run_verdict::readable;
 use run_verdict::taken_after;
 use run_verdict::waits;
-use write_line::write_line;
+use write_line::heading;
+use write_line::key_cell;
+use write_line::line_end;
 ghost use mathlib.Core.Path.{_≡_};
 ghost use lib.ListN.{length};
 ghost use Rattle.model.specs.{Run.runJob, Answer.left, Answer.leftBy, Stored.jobOf, Stored.Stored, Accepted.Sound};
@@ -31,7 +33,6 @@ pub fn run_job(job: StoredJob, out: &mut [u8]) -> Answer
     ensures { λ r. ⌜ left r (now (out .exit)) ≡ leftBy (now (out .entry)) (runJob (jobOf job) (length (now (out .entry)))) ⌝ }
 {
     let keys = job.keys;
-    let secrets = job.secrets;
     let count = job.command_count;
     let line_bytes = 10 + 12 * keys;
     let mut low = Execution::begun();
@@ -54,7 +55,14 @@ pub fn run_job(job: StoredJob, out: &mut [u8]) -> Answer
                     Call::Receives => {
                         let t = readable(taken, job.message_count);
                         let line = job.messages[t];
-                        message = receive(keys, secrets, taken < job.message_count, line);
+                        let more = taken < job.message_count;
+                        let mut k: usize = 0;
+                        while k < keys {
+                            let s = job.secrets[k];
+                            let e = line.slots[k];
+                            message[k] = received(s, more, e);
+                            k += 1;
+                        }
                         taken = taken_after(taken, job.message_count);
                         let next = low.called();
                         low.place = next.place;
@@ -68,7 +76,15 @@ pub fn run_job(job: StoredJob, out: &mut [u8]) -> Answer
                         if out.len() - bytes < line_bytes {
                             return ended(Ending::NoRoom, clock, bytes, taken);
                         }
-                        write_line(out, bytes, at, keys, secrets, message);
+                        heading(out, bytes, at);
+                        let mut k: usize = 0;
+                        while k < keys {
+                            let s = job.secrets[k];
+                            let f = message[k];
+                            key_cell(out, bytes, k, s, f);
+                            k += 1;
+                        }
+                        line_end(out, bytes, keys);
                         bytes = bytes + line_bytes;
                         let next = low.called();
                         low.place = next.place;
@@ -83,20 +99,14 @@ pub fn run_job(job: StoredJob, out: &mut [u8]) -> Answer
                         let f = message[k];
                         let v = index(c.v);
                         let w = index(c.w);
-                        let r = effect_at(
-                            c,
-                            p,
-                            low.vars[v],
-                            low.vars[w],
-                            f.side(Level::Low),
-                            count,
-                        );
+                        let e = f.side(Level::Low);
+                        let r = effect_at(c, p, low.vars[v], low.vars[w], e, count);
                         let next = low.after(v, r.value, r.place, low.calls);
                         low.vars[v] = next.holds(v);
                         low.place = next.place;
                         low.calls = next.calls;
-                        let e = r.entry;
-                        message[k] = f.with(Level::Low, e);
+                        let entry = r.entry;
+                        message[k] = f.with(Level::Low, entry);
                         clock = clock.ticked(Level::Low);
                         if count <= low.place {
                             return ended(Ending::Stopped, clock, bytes, taken);
@@ -119,20 +129,14 @@ pub fn run_job(job: StoredJob, out: &mut [u8]) -> Answer
                         let f = message[k];
                         let v = index(c.v);
                         let w = index(c.w);
-                        let r = effect_at(
-                            c,
-                            p,
-                            high.vars[v],
-                            high.vars[w],
-                            f.side(Level::High),
-                            count,
-                        );
+                        let e = f.side(Level::High);
+                        let r = effect_at(c, p, high.vars[v], high.vars[w], e, count);
                         let next = high.after(v, r.value, r.place, high.calls + calls_by(call));
                         high.vars[v] = next.holds(v);
                         high.place = next.place;
                         high.calls = next.calls;
-                        let e = r.entry;
-                        message[k] = f.with(Level::High, e);
+                        let entry = r.entry;
+                        message[k] = f.with(Level::High, entry);
                         clock = clock.ticked(Level::High);
                     }
                 }

@@ -4,10 +4,10 @@ use mathlib.Core.Bool.{Bool, true, false, cond}
 use mathlib.Core.List.{List, [], _∷_, _++_, map}
 use Prim.Native.Nat.{ℕ, zero, suc, _+_, _≤_, _<_}
 use native.Mathlib.{Omega.arith, Nat.le-of-suc-le-suc, Nat.not-suc-le-zero, Numerals.add-one}
-use lib.{ListN.length, ListN.getD, ListN.take, ListN.drop, ListN.set, ListN.replicate, ListN.length-map, Seq.take-suc, Seq.take-suc-set, Seq.take-all, Seq.map-set-same}
+use lib.{ListN.length, ListN.getD, ListN.take, ListN.drop, ListN.set, ListN.replicate, ListN.length-map, ListN.length-replicate, ListN.getD-replicate, Seq.take-suc, Seq.take-suc-set, Seq.take-all, Seq.map-set-same}
 use Rattle.model.specs.{Stored.keyCapacity, Stored.firstOf, Stored.keyIn, Stored.entryIn, Stored.keysIn, Stored.side, Stored.held, Stored.openSlot, Stored.absentSlot}
 use Rattle.model.specs.{Stored.absentField, Message.shown, Message.fill}
-use Rattle.run_message.specs.Message.{fieldOf, Received, Cleared}
+use Rattle.run_message.specs.Message.{fieldOf, receivedBy, ReceivedTo, Cleared}
 use Rattle.model.proofs.Stored.{map-set, first-set, first-same, first-at, first-count}
 use Rattle.model.specs.declared.{Entry.Entry, Field.Field, Key.Key, Level.Level, KeySlot.KeySlot, EntrySlot.EntrySlot}
 use Rattle.model.specs.declared.Entry.the-variants.{Absent, Number}
@@ -32,6 +32,10 @@ fill-at l (x ∷ ks) es (suc k) h = fill-at l ks (drop 1 es) k (le-of-suc-le-suc
 side-field : (l : Level) (k : Key) (e : Entry) → side l (fieldOf k e) ≡ shown l k e
 side-field Low k e = refl
 side-field High k e = refl
+
+absent-side : (l : Level) → side l absentField ≡ Absent
+absent-side Low = refl
+absent-side High = refl
 
 -- the two cases of a key
 pub field-open : (e : Entry) → record { low = e; high = e } ≡ fieldOf Open e
@@ -59,40 +63,38 @@ module _ (n : ℕ) (ss : List KeySlot) (ts : List EntrySlot) (keys : n ≤ lengt
   keys-count : length ks ≡ n
   keys-count = first-count keyIn n ss keys
 
-  -- one field more, at a level
-  pub filled-more : (l : Level) (m : List Field) (k : ℕ) (f : Field) → k < n → k < length m → f ≡ fieldOf (getD ss k openSlot .key) (getD ts k absentSlot .entry)
-      → firstOf (side l) k m ≡ take k (fill l ks es) → firstOf (side l) (k + 1) (set m k f) ≡ take (k + 1) (fill l ks es)
-  filled-more l m k f h g e before =
-      let w : List Entry = fill l ks es in
-      let below : k < length w = omega (arith, fill-length l ks es, keys-count) in
-      let key = first-at keyIn n ss k openSlot h in
-      let entry = first-at entryIn n ts k absentSlot h in
-      let here : side l f ≡ getD w k Absent =
-      ap (side l) e
-      ∙ side-field l (getD ss k openSlot .key) (getD ts k absentSlot .entry)
-      ∙ ap₂ (shown l) (sym key) (sym entry)
-      ∙ sym (fill-at l ks es k (omega (arith, keys-count))) in
+  -- what a receive leaves, and the field of a key
+  abbrev w : Bool → Level → List Entry
+  w more l = receivedBy n ks more es l
+
+  received-length : (more : Bool) (l : Level) → length (w more l) ≡ n
+  received-length true l = fill-length l ks es ∙ keys-count
+  received-length false l = length-replicate n Absent
+
+  received-at : (more : Bool) (l : Level) (k : ℕ) → k < n
+      → side l (cond more (fieldOf (getD ss k openSlot .key) (getD ts k absentSlot .entry)) absentField) ≡ getD (w more l) k Absent
+  received-at true l k h =
+      side-field l (getD ss k openSlot .key) (getD ts k absentSlot .entry)
+      ∙ ap₂ (shown l) (sym (first-at keyIn n ss k openSlot h)) (sym (first-at entryIn n ts k absentSlot h))
+      ∙ sym (fill-at l ks es k (omega (arith, keys-count)))
+  received-at false l k h = absent-side l ∙ sym (getD-replicate n k Absent Absent h)
+
+  -- one field more
+  pub received-more : (more : Bool) (m : List Field) (k : ℕ) (f : Field) → k < n → k < length m
+      → f ≡ cond more (fieldOf (getD ss k openSlot .key) (getD ts k absentSlot .entry)) absentField → ReceivedTo k n m ks more es → ReceivedTo (k + 1) n (set m k f) ks more es
+  received-more more m k f h g e before l =
       ap (λ (i : ℕ). take i (map (side l) (set m k f))) (add-one k)
       ∙ ap (take (suc k)) (map-set (side l) m k f)
       ∙ take-suc-set (map (side l) m) k (side l f) (omega (arith, length-map m (side l)))
-      ∙ ap₂ (λ (xs : List Entry) (x : Entry). xs ++ (x ∷ [])) before here
-      ∙ sym (take-suc w k Absent below)
-      ∙ ap (λ (i : ℕ). take i w) (sym (add-one k))
+      ∙ ap₂ (λ (xs : List Entry) (x : Entry). xs ++ (x ∷ [])) (before l) (ap (side l) e ∙ received-at more l k h)
+      ∙ sym (take-suc (w more l) k Absent (omega (arith, received-length more l)))
+      ∙ ap (λ (i : ℕ). take i (w more l)) (sym (add-one k))
 
   -- all of them
-  filled-all : (m : List Field) (k : ℕ) → k ≡ n → ((l : Level) → firstOf (side l) k m ≡ take k (fill l ks es)) → (l : Level) → held n m l ≡ fill l ks es
+  pub received-all : (more : Bool) (m : List Field) (k : ℕ) → k ≡ n → ReceivedTo k n m ks more es → (l : Level) → held n m l ≡ w more l
   unfolding held
-  filled-all m k e h l =
-      ap (λ (i : ℕ). firstOf (side l) i m) (sym e)
-      ∙ h l
-      ∙ ap (λ (i : ℕ). take i (fill l ks es)) e
-      ∙ take-all n (fill l ks es) (omega (arith, fill-length l ks es, keys-count))
-
-  -- where there is a line all are filled, else none
-  pub received-all : n ≤ keyCapacity → (m : List Field) (k : ℕ) (more : Bool) → k ≡ cond more n 0 → (k ≡ 0 → Cleared m)
-      → ((l : Level) → firstOf (side l) k m ≡ take k (fill l ks es)) → Received n m ks more es
-  received-all few m k true e none h l = filled-all m k e h l
-  received-all few m k false e none h l = cleared-held n m few (none e) l
+  received-all more m k e h l =
+      ap (λ (i : ℕ). firstOf (side l) i m) (sym e) ∙ h l ∙ ap (λ (i : ℕ). take i (w more l)) e ∙ take-all n (w more l) (omega (arith, received-length more l))
 
 -- ---- One field changed
 

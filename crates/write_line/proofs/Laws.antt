@@ -55,25 +55,31 @@ module _ (n : ℕ) (ss : List KeySlot) (m : List Field) (enough : n ≤ length s
       ∙ ap (λ (x : Key). getD (held n m (source x)) k Absent) (first-at keyIn n ss k openSlot h)
       ∙ held-at n m (source (getD ss k openSlot .key)) k h
 
--- what stands after a key's column, once the column is placed
-module _ (out : List ℕ) (p : ℕ) (es : List Entry) (k : ℕ) where
-  cells-at : k < length es → cells (drop k es) ≡ (space ∷ cell (getD es k Absent)) ++ cells (drop (k + 1) es)
-  unfolding cells
-  cells-at h = rw (add-one, drop-cons es k Absent h)
+-- ---- The cells of a line that starts at the place at: those from the key k on are still to write
 
-  pub cells-again : (o : List ℕ) (e : Entry) → k < length es → p + 12 ≤ length out → e ≡ getD es k Absent → o ≡ placed out p (space ∷ cell e)
-      → placed o (p + 12) (cells (drop (k + 1) es)) ≡ placed out p (cells (drop k es))
-  cells-again o e h room ee eo =
+module _ (at : ℕ) (es : List Entry) where
+  -- the place of a key's cell
+  abbrev pub cellAt : ℕ → ℕ
+  cellAt k = at + (9 + 12 * k)
+
+  cells-at : (k : ℕ) → k < length es → cells (drop k es) ≡ (space ∷ cell (getD es k Absent)) ++ cells (drop (k + 1) es)
+  unfolding cells
+  cells-at k h = rw (add-one, drop-cons es k Absent h)
+
+  -- one cell more
+  pub cells-again : (out o : List ℕ) (k : ℕ) (e : Entry) → k < length es → cellAt k + 12 ≤ length out → e ≡ getD es k Absent → o ≡ placed out (cellAt k) (space ∷ cell e)
+      → placed o (cellAt (k + 1)) (cells (drop (k + 1) es)) ≡ placed out (cellAt k) (cells (drop k es))
+  cells-again out o k e h room ee eo =
       let rest = cells (drop (k + 1) es) in
-      let n : length (space ∷ cell e) ≡ 12 = ap suc (cell-length e) in
-      ap₂ (λ (l : List ℕ) (q : ℕ). placed l (p + q) rest) eo (sym n)
-      ∙ placed-append out p (space ∷ cell e) (omega arith) rest
-      ∙ ap (λ (z : Entry). placed out p ((space ∷ cell z) ++ rest)) ee
-      ∙ ap (placed out p) (sym (cells-at h))
+      let n : cellAt (k + 1) ≡ cellAt k + length (space ∷ cell e) = omega (arith, ap suc (cell-length e)) in
+      ap₂ (λ (l : List ℕ) (q : ℕ). placed l q rest) eo n
+      ∙ placed-append out (cellAt k) (space ∷ cell e) (omega (arith, ap suc (cell-length e))) rest
+      ∙ ap (λ (z : Entry). placed out (cellAt k) ((space ∷ cell z) ++ rest)) ee
+      ∙ ap (placed out (cellAt k)) (sym (cells-at k h))
 
-  pub cells-end : length es ≤ k → placed out p (cells (drop k es)) ≡ out
+  pub cells-end : (out : List ℕ) (k : ℕ) → length es ≤ k → placed out (cellAt k) (cells (drop k es)) ≡ out
   unfolding cells
-  cells-end h = ap (λ (l : List Entry). placed out p (cells l)) (drop-of-length-le es h) ∙ placed-nil out p
+  cells-end out k h = ap (λ (l : List Entry). placed out (cellAt k) (cells l)) (drop-of-length-le es h) ∙ placed-nil out (cellAt k)
 
 -- ---- The line
 
@@ -93,17 +99,16 @@ five-placed out at a b c d e s h =
 
 -- the heading, the cells and the line feed make the line
 pub line-written : (out h o : List ℕ) (at n keys : ℕ) (es : List Entry) → length es ≡ keys → at + (10 + 12 * keys) ≤ length out
-    → h ≡ placed out at (heading n) → o ≡ placed h (at + 9) (cells es) → set o (at + 9 + 12 * keys) lineFeed ≡ placed out at (lineBytes (lineOf n es))
+    → h ≡ placed out at (heading n) → o ≡ placed h (cellAt at es 0) (cells es) → set o (cellAt at es keys) lineFeed ≡ placed out at (lineBytes (lineOf n es))
 unfolding lineBytes
 line-written out h o at n keys es e room eh eo =
     let hs : List ℕ = heading n in
     let cs : List ℕ = cells es in
-    let end = at + 9 + 12 * keys in
-    let hl : length hs ≡ 9 = heading-length n in
+    let end = cellAt at es keys in
+    let hl : cellAt at es 0 ≡ at + length hs = omega (arith, heading-length n) in
     let cl : length cs ≡ 12 * keys = cells-length es ∙ ap (λ (k : ℕ). 12 * k) e in
-    let first = ap₂ (λ (l : List ℕ) (q : ℕ). placed l (at + q) cs) eh (sym hl) in
-    let both : o ≡ placed out at (hs ++ cs) = eo ∙ first ∙ placed-append out at hs (omega arith) cs in
-    let whole : length (hs ++ cs) ≡ 9 + 12 * keys = omega (arith, length-append hs cs) in
+    let both : o ≡ placed out at (hs ++ cs) = eo ∙ ap₂ (λ (l : List ℕ) (q : ℕ). placed l q cs) eh hl ∙ placed-append out at hs (omega (arith, heading-length n)) cs in
+    let whole : length (hs ++ cs) ≡ 9 + 12 * keys = omega (arith, length-append hs cs, heading-length n) in
     let same : length o ≡ length out = ap length both ∙ placed-length out at (hs ++ cs) (omega arith) in
     let q : end ≡ at + length (hs ++ cs) = omega arith in
     sym (placed-nil _ (end + 1))

@@ -1,8 +1,7 @@
 -- A sent line, of what the code's arrays hold.
-use Prim.Native.Nat.{ℕ, _+_, _≤_}
+use Prim.Native.Nat.{ℕ}
 use mathlib.Core.List.{List}
-use lib.ListN.{length}
-use Rattle.model.specs.{Message.columns, State.Sent, Stored.keyCapacity, Stored.keysIn, Stored.held}
+use Rattle.model.specs.{Message.columns, State.Sent, Stored.keysIn, Stored.held}
 use Rattle.model.specs.declared.{Entry.Entry, Field.Field, KeySlot.KeySlot}
 
 -- the entry of each of n keys
@@ -11,8 +10,3 @@ columnsIn n secrets message = columns 0 (keysIn n secrets) (held n message)
 
 abbrev pub lineOf : ℕ → List Entry → Sent
 lineOf n es = record { position = n; columns = es }
-
--- what a caller shows who lends the memory for so many bytes
-pub record Roomy (bytes at keys : ℕ) (out : List ℕ) : Type 0 where
-  pub few : keys ≤ keyCapacity
-  pub room : at + bytes ≤ length out

@@ -1,16 +1,15 @@
-// The bytes of a sent line, written into the output memory.
+// The parts of a sent line, written into the output memory: its heading, the cell of each key, the line feed.
 use model::Entry;
 use model::Field;
-use model::KEY_CAPACITY;
 use model::Key;
 use model::KeySlot;
 ghost use mathlib.Core.Path.{_≡_};
 ghost use mathlib.Core.List.{_∷_};
 ghost use Prim.Native.Nat.{_+_, _*_, _≤_, _<_};
-ghost use lib.{ListN.length, ListN.replicate, IntN.natAbs};
-ghost use Rattle.model.specs.{Text.space, Text.dot, Message.source, Line.digits, Line.sign as Output·sign, Line.cell as Output·cell, Line.cells as Output·cells};
-ghost use Rattle.model.specs.{Line.heading as Output·heading, Line.lineBytes, Stored.side};
-ghost use Rattle.write_line.specs.{Placed.placed, Line.columnsIn, Line.lineOf, Line.Roomy};
+ghost use lib.{ListN.length, ListN.set, ListN.replicate, IntN.natAbs};
+ghost use Rattle.model.specs.{Text.lineFeed, Text.space, Text.dot, Message.source, Line.digits, Line.sign as Output·sign, Line.cell as Output·cell};
+ghost use Rattle.model.specs.{Line.heading as Output·heading, Stored.side, Stored.keyCapacity};
+ghost use Rattle.write_line.specs.Placed.{placed};
 
 fn sign(x: i32) -> u8
     ensures { λ r. ⌜ r ≡ Output·sign x ⌝ }
@@ -91,30 +90,17 @@ fn column(key: Key, f: Field) -> Entry
     }
 }
 
-fn cells(
-    out: &mut [u8],
-    at: usize,
-    keys: usize,
-    secrets: [KeySlot; KEY_CAPACITY],
-    message: [Field; KEY_CAPACITY],
-)
-    requires { ⌜ Roomy (12 * keys) at keys (now out) ⌝ }
-    ensures { λ _. ⌜ now (out .exit) ≡ placed (now (out .entry)) at (Output·cells (columnsIn keys secrets message)) ⌝ }
+// The cell of the key k, in a line that starts at the place at.
+pub fn key_cell(out: &mut [u8], at: usize, k: usize, slot: KeySlot, f: Field)
+    requires { ⌜ (k < keyCapacity) × (at + (9 + 12 * k) + 12 ≤ length (now out)) ⌝ }
+    ensures { λ _. ⌜ now (out .exit) ≡ placed (now (out .entry)) (at + (9 + 12 * k)) (space ∷ Output·cell (side (source (slot .key)) f)) ⌝ }
 {
-    let mut p = at;
-    let mut k: usize = 0;
-    while k < keys {
-        let s = secrets[k];
-        let key = s.key;
-        let f = message[k];
-        let e = column(key, f);
-        spaced_cell(out, p, e);
-        p += 12;
-        k += 1;
-    }
+    let key = slot.key;
+    spaced_cell(out, at + (9 + 12 * k), column(key, f));
 }
 
-fn heading(out: &mut [u8], at: usize, position: usize)
+// The heading of a line that starts at the place at.
+pub fn heading(out: &mut [u8], at: usize, position: usize)
     requires { ⌜ (at + 9 ≤ length (now out)) × (position < 10000) ⌝ }
     ensures { λ _. ⌜ now (out .exit) ≡ placed (now (out .entry)) at (Output·heading position) ⌝ }
 {
@@ -126,19 +112,10 @@ fn heading(out: &mut [u8], at: usize, position: usize)
     spell(out, at + 5, 4, position as u32);
 }
 
-// Writes the line that a send at the position makes of the message, at the place at of out.
-pub fn write_line(
-    out: &mut [u8],
-    at: usize,
-    position: usize,
-    keys: usize,
-    secrets: [KeySlot; KEY_CAPACITY],
-    message: [Field; KEY_CAPACITY],
-)
-    requires { ⌜ (position < 10000) × Roomy (10 + 12 * keys) at keys (now out) ⌝ }
-    ensures { λ _. ⌜ now (out .exit) ≡ placed (now (out .entry)) at (lineBytes (lineOf position (columnsIn keys secrets message))) ⌝ }
+// The line feed that ends a line of so many keys.
+pub fn line_end(out: &mut [u8], at: usize, keys: usize)
+    requires { ⌜ (keys ≤ keyCapacity) × (at + (10 + 12 * keys) ≤ length (now out)) ⌝ }
+    ensures { λ _. ⌜ now (out .exit) ≡ set (now (out .entry)) (at + (9 + 12 * keys)) lineFeed ⌝ }
 {
-    heading(out, at, position);
-    cells(out, at + 9, keys, secrets, message);
-    out[at + 9 + 12 * keys] = b'\n';
+    out[at + (9 + 12 * keys)] = b'\n';
 }

@@ -1,19 +1,23 @@
 -- The loop keeps what `Inv` of proofs/Loop.antt says; every turn cites the law of its kind, and each ending the test that finds it.
 use Prim.Native.Nat.{ℕ, _+_, _-_, _*_, _<_, _≤_}
 use mathlib.Core.Path.{_≡_, refl, sym, ap, ap₂, _∙_}
-use mathlib.Core.Bool.{false}
+use mathlib.Core.Bool.{Bool, false}
 use mathlib.Core.List.{List, []}
 use native.Mathlib.{Omega.arith, Nat.add-zero}
 use borrow.Author.{Needs.needs, Needs.sfits-of, Tests.lt-ltb, Tests.le-ltb}
-use lib.{IntN.ℤ, ListN.length, ListN.getD}
+use lib.{IntN.ℤ, Dec.ltb, ListN.length, ListN.getD, ListN.drop, ListN.length-set}
 use mir.{Syntax.w32, Val.toZ, Val.ofZ, Val.SFits, ValLaws.toZ-ofZ}
-use Rattle.model.specs.{Step.begun, Step.variable, Step.afterOf, Step.effectOf, Step.callOf, Step.callsBy, Limits.variables, Stored.keyCapacity, Stored.messageCapacity, Stored.levelOf, Accepted.Within, State.ticked, Verdict.short, Verdict.waits, Verdict.verdictBy, Run.runJob, Answer.left, Answer.leftBy}
+use Rattle.model.specs.{Step.begun, Step.variable, Step.afterOf, Step.effectOf, Step.callOf, Step.callsBy, Limits.variables, Stored.keyCapacity, Stored.messageCapacity, Stored.keysIn, Stored.entriesIn, Stored.levelOf, Line.cells, Accepted.Within, State.ticked, Verdict.short, Verdict.waits, Verdict.verdictBy, Run.runJob, Answer.left, Answer.leftBy}
 use Rattle.model.specs.Stored as Stored
-use Rattle.model.specs.declared.{Command.Command, Call.Call, Level.Level, Execution.Execution, Clock.Clock, StoredJob.StoredJob, Answer.Answer, Answer.the-variants.Ended}
+use Rattle.model.specs.declared.{Command.Command, Call.Call, Level.Level, Execution.Execution, Clock.Clock, MessageLine.MessageLine, StoredJob.StoredJob, Answer.Answer, Answer.the-variants.Ended}
 use Rattle.model.specs.declared.Ending.the-variants.{Stopped, NoRoom}
 use Rattle.model.specs.declared.Call.the-variants.{Neither, Receives, Sends}
 use Rattle.model.specs.declared.Level.the-variants.{Low, High}
 use Rattle.run_step.proofs.Laws.{changedBy}
+use Rattle.run_message.specs.Message.{receivedBy, ReceivedTo}
+use Rattle.run_message.proofs.Laws.{received-more, received-all}
+use Rattle.write_line.specs.{Placed.placed, Line.columnsIn}
+use Rattle.write_line.proofs.Laws.{columns-at, columns-count, cellAt, cells-again, cells-end, line-written}
 use Rattle.run_verdict.specs.Verdict.{countsAs}
 use Rattle.run_job.specs.{Held.Held, Held.withTaken, Held.withMessage, Held.withBytes, Held.withClock, Turn.Turned}
 use Rattle.run_job.proofs.{Views.commandAt, Views.Ready, Views.few, Views.below-or-first, Views.operands-at, Loop.Kept, Loop.Inv, Loop.begins, Loop.Small, Loop.small, Loop.same-length, Loop.counts-fit, Loop.ends}
@@ -22,68 +26,85 @@ use Rattle.run_job.proofs.{Turn.idle-at-end, Turn.idle-waiting}
 use Rattle.run_job.proofs.run_job.Statement.{statement}
 use Rattle.run_job.proofs.run_job.Tie as tie
 
+-- the message, filled in place: the first k fields are as the receive leaves them
+abbrev Inv-loop2 : tie.InvT-loop2
+Inv-loop2 out job keys count line-bytes low high message₀ clock bytes taken at p t line more k₀ message k =
+    (k ≤ keys) × (length message ≡ keyCapacity) × ReceivedTo k keys message (keysIn keys (job .secrets)) more (entriesIn keys line)
+
+abbrev μ-loop2 : tie.MeasureT-loop2
+μ-loop2 out job keys count line-bytes low high message₀ clock bytes taken at p t line more k₀ message k = keys - k
+
+-- the line, written in place: the cells that are still to write make of the memory what all of them make of it
+abbrev Inv-loop3 : tie.InvT-loop3
+Inv-loop3 out₀ job keys count line-bytes low high message clock bytes taken at p k₀ out k =
+    let es = columnsIn keys (job .secrets) message in
+    (length out ≡ length out₀) × (k ≤ keys) × (placed out (cellAt bytes es k) (cells (drop k es)) ≡ placed out₀ (cellAt bytes es 0) (cells es))
+
+abbrev μ-loop3 : tie.MeasureT-loop3
+μ-loop3 out₀ job keys count line-bytes low high message clock bytes taken at p k₀ out k = keys - k
+
 abbrev Inv-loop : tie.InvT-loop
-Inv-loop out₀ job keys secrets count line-bytes low₀ high₀ message₀ clock₀ bytes₀ taken₀ out low high message clock bytes taken =
+Inv-loop out₀ job keys count line-bytes low₀ high₀ message₀ clock₀ bytes₀ taken₀ out low high message clock bytes taken =
     Inv job out₀ (record { low = low; high = high; message = message; taken = taken; bytes = bytes; clock = clock }) out
 
 abbrev μ-loop : tie.MeasureT-loop
-μ-loop out₀ job keys secrets count line-bytes low₀ high₀ message₀ clock₀ bytes₀ taken₀ out low high message clock bytes taken =
+μ-loop out₀ job keys count line-bytes low₀ high₀ message₀ clock₀ bytes₀ taken₀ out low high message clock bytes taken =
     job .«turn_count» - clock .positions
 
 -- ---- The points of the code: each from the next one that an answer names. A new statement moves one of these lines.
 
-abbrev callerOf : tie.At-loop Inv-loop μ-loop → tie.Start Inv-loop μ-loop
-callerOf c = c .before .before .before .before .before .before .before
+abbrev callerOf : tie.At-loop Inv-loop2 μ-loop2 Inv-loop3 μ-loop3 Inv-loop μ-loop → tie.Start Inv-loop2 μ-loop2 Inv-loop3 μ-loop3 Inv-loop μ-loop
+callerOf c = c .before .before .before .before .before .before
 
-abbrev jobOf : tie.At-loop Inv-loop μ-loop → StoredJob
+abbrev jobOf : tie.At-loop Inv-loop2 μ-loop2 Inv-loop3 μ-loop3 Inv-loop μ-loop → StoredJob
 jobOf c = callerOf c .args .t1
 
-abbrev heldAt : tie.At-loop Inv-loop μ-loop → Held
+abbrev heldAt : tie.At-loop Inv-loop2 μ-loop2 Inv-loop3 μ-loop3 Inv-loop μ-loop → Held
 heldAt c = record { low = c .loop .low; high = c .loop .high; message = c .loop .message; taken = c .loop .taken; bytes = c .loop .bytes; clock = c .loop .clock }
 
-abbrev loopOf : tie.After-level-of Inv-loop μ-loop → tie.At-loop Inv-loop μ-loop
+abbrev loopOf : tie.After-level-of Inv-loop2 μ-loop2 Inv-loop3 μ-loop3 Inv-loop μ-loop → tie.At-loop Inv-loop2 μ-loop2 Inv-loop3 μ-loop3 Inv-loop μ-loop
 loopOf c = c .before .before .before
 
-ready : (c : tie.At-loop Inv-loop μ-loop) → Ready (jobOf c)
+ready : (c : tie.At-loop Inv-loop2 μ-loop2 Inv-loop3 μ-loop3 Inv-loop μ-loop) → Ready (jobOf c)
 ready c = callerOf c .pre
 
-loop-holds : tie.Need-loop-holds Inv-loop μ-loop
+loop-holds : tie.Need-loop-holds Inv-loop2 μ-loop2 Inv-loop3 μ-loop3 Inv-loop μ-loop
 loop-holds c =
     let cleared = c .before in
     let high = cleared .before in
     let low = high .before in
-    let start = low .before .before .before in
-    record { kept = begins (start .pre) _ _ _ _ _ (low .begun .ensures) (high .begun2 .ensures) (cleared .cleared .ensures) (c .started .ensures); live = omega (arith, ap (λ (x : Execution). x .place) (low .begun .ensures), few (start .pre) .some) }
+    let start = low .before .before in
+    record { kept = begins (start .pre) _ _ _ _ _ (low .begun .ensures) (high .begun2 .ensures) (cleared .cleared .ensures) (c .started .ensures); full = ap length (cleared .cleared .ensures); live = omega (arith, ap (λ (x : Execution). x .place) (low .begun .ensures), few (start .pre) .some) }
 
 -- ---- What the code counts stays small
 
-small-at : (c : tie.At-loop Inv-loop μ-loop) → Small (ready c) (c .loop .inv .kept)
+small-at : (c : tie.At-loop Inv-loop2 μ-loop2 Inv-loop3 μ-loop3 Inv-loop μ-loop) → Small (ready c) (c .loop .inv .kept)
 small-at c = small (ready c) (c .loop .inv .kept)
 
-ticks : (c : tie.At-loop Inv-loop μ-loop) → (c .loop .clock .positions < 4294967296) × (c .loop .clock .steps < 4294967296)
+ticks : (c : tie.At-loop Inv-loop2 μ-loop2 Inv-loop3 μ-loop3 Inv-loop μ-loop) → (c .loop .clock .positions < 4294967296) × (c .loop .clock .steps < 4294967296)
 ticks c = (omega (arith, small-at c .positions), omega (arith, small-at c .steps))
 
-calls-low : (c : tie.At-loop Inv-loop μ-loop) → (c .loop .low .place < 4294967296) × (c .loop .low .calls < 4294967296)
+calls-low : (c : tie.At-loop Inv-loop2 μ-loop2 Inv-loop3 μ-loop3 Inv-loop μ-loop) → (c .loop .low .place < 4294967296) × (c .loop .low .calls < 4294967296)
 calls-low c = (omega (arith, c .loop .inv .live, few (ready c) .commands), omega (arith, small-at c .calls Low))
 
 -- ---- Whose turn it is
 
-more : (c : tie.After-level-of Inv-loop μ-loop) → loopOf c .loop .clock .positions < jobOf (loopOf c) .«turn_count»
+more : (c : tie.After-level-of Inv-loop2 μ-loop2 Inv-loop3 μ-loop3 Inv-loop μ-loop) → loopOf c .loop .clock .positions < jobOf (loopOf c) .«turn_count»
 more c = omega (arith, c .before .before .if1 .left)
 
-level-is : (c : tie.After-level-of Inv-loop μ-loop) → levelOf (getD (jobOf (loopOf c) .turns) (loopOf c .loop .clock .positions) 0) ≡ c .level-of .result
+level-is : (c : tie.After-level-of Inv-loop2 μ-loop2 Inv-loop3 μ-loop3 Inv-loop μ-loop) → levelOf (getD (jobOf (loopOf c) .turns) (loopOf c .loop .clock .positions) 0) ≡ c .level-of .result
 level-is c = sym (c .level-of .ensures)
 
 -- a turn leaves fewer letters
-fewer : (c : tie.After-level-of Inv-loop μ-loop) (l : Level) (t : Clock) → t ≡ ticked l (loopOf c .loop .clock)
+fewer : (c : tie.After-level-of Inv-loop2 μ-loop2 Inv-loop3 μ-loop3 Inv-loop μ-loop) (l : Level) (t : Clock) → t ≡ ticked l (loopOf c .loop .clock)
     → jobOf (loopOf c) .«turn_count» - t .positions < jobOf (loopOf c) .«turn_count» - loopOf c .loop .clock .positions
 fewer c l t e = omega (arith, more c, ap (λ (d : Clock). d .positions) e)
 
 -- all letters are used
-ended-requires : tie.Need-ended-requires Inv-loop μ-loop
+ended-requires : tie.Need-ended-requires Inv-loop2 μ-loop2 Inv-loop3 μ-loop3 Inv-loop μ-loop
 ended-requires c κs = let l = c .before in counts-fit (ready l) (l .loop .inv .kept)
 
-returns : tie.Need-returns Inv-loop μ-loop
+returns : tie.Need-returns Inv-loop2 μ-loop2 Inv-loop3 μ-loop3 Inv-loop μ-loop
 returns c =
     let l = c .before .before in
     let i = l .loop .inv in
@@ -91,21 +112,21 @@ returns c =
 
 -- ---- Low turns
 
-abbrev lowLetter : tie.After-enum-told Inv-loop μ-loop → tie.After-level-of Inv-loop μ-loop
+abbrev lowLetter : tie.After-enum-told Inv-loop2 μ-loop2 Inv-loop3 μ-loop3 Inv-loop μ-loop → tie.After-level-of Inv-loop2 μ-loop2 Inv-loop3 μ-loop3 Inv-loop μ-loop
 lowLetter c = c .before .before
 
-abbrev lowLoop : tie.After-enum-told Inv-loop μ-loop → tie.At-loop Inv-loop μ-loop
+abbrev lowLoop : tie.After-enum-told Inv-loop2 μ-loop2 Inv-loop3 μ-loop3 Inv-loop μ-loop → tie.At-loop Inv-loop2 μ-loop2 Inv-loop3 μ-loop3 Inv-loop μ-loop
 lowLoop c = loopOf (lowLetter c)
 
-isLow : (c : tie.After-enum-told Inv-loop μ-loop) → levelOf (getD (jobOf (lowLoop c) .turns) (lowLoop c .loop .clock .positions) 0) ≡ Low
+isLow : (c : tie.After-enum-told Inv-loop2 μ-loop2 Inv-loop3 μ-loop3 Inv-loop μ-loop) → levelOf (getD (jobOf (lowLoop c) .turns) (lowLoop c .loop .clock .positions) 0) ≡ Low
 isLow c = level-is (lowLetter c) ∙ c .enum-told .given .1
 
-operands-low : (c : tie.After-enum-told Inv-loop μ-loop) → let l = lowLoop c in Within (jobOf l .keys) (jobOf l .«command_count») (commandAt (jobOf l .commands) (l .loop .low .place))
+operands-low : (c : tie.After-enum-told Inv-loop2 μ-loop2 Inv-loop3 μ-loop3 Inv-loop μ-loop) → let l = lowLoop c in Within (jobOf l .keys) (jobOf l .«command_count») (commandAt (jobOf l .commands) (l .loop .low .place))
 operands-low c = let l = lowLoop c in operands-at (ready l) (l .loop .low .place) (l .loop .inv .live)
 
 -- the low execution's turn, and what it leaves; whether it stops is tested last
-module _ (c : tie.After-enum-told Inv-loop μ-loop) where
-  abbrev l : tie.At-loop Inv-loop μ-loop
+module _ (c : tie.After-enum-told Inv-loop2 μ-loop2 Inv-loop3 μ-loop3 Inv-loop μ-loop) where
+  abbrev l : tie.At-loop Inv-loop2 μ-loop2 Inv-loop3 μ-loop3 Inv-loop μ-loop
   l = lowLoop c
 
   abbrev Low-kept : Held → List ℕ → Type 0
@@ -121,45 +142,73 @@ module _ (c : tie.After-enum-told Inv-loop μ-loop) where
   stops k end a ea = ends (ready l) k Stopped (found-stopped (ready l) k end) a ea
 
 -- a receive
-abbrev receiveOf : tie.After-ticked Inv-loop μ-loop → tie.After-enum-told2 Inv-loop μ-loop
-receiveOf c = c .before .before .before .before .before .before
-
-abbrev receiveLow : tie.After-enum-told2 Inv-loop μ-loop → tie.After-enum-told Inv-loop μ-loop
+abbrev receiveLow : tie.After-enum-told2 Inv-loop2 μ-loop2 Inv-loop3 μ-loop3 Inv-loop μ-loop → tie.After-enum-told Inv-loop2 μ-loop2 Inv-loop3 μ-loop3 Inv-loop μ-loop
 receiveLow c = c .before .before .before .before
 
-line-below : (c : tie.After-readable Inv-loop μ-loop) → c .readable .result < messageCapacity
+line-below : (c : tie.After-readable Inv-loop2 μ-loop2 Inv-loop3 μ-loop3 Inv-loop μ-loop) → c .readable .result < messageCapacity
 line-below c = let l = lowLoop (receiveLow (c .before)) in below-or-first _ _ _ messageCapacity (c .readable .ensures) (few (ready l) .messages) (omega arith)
 
-after-receive : (c : tie.After-ticked Inv-loop μ-loop) →
-    let n = c .before .before in
+-- the loop over the keys, from its head
+abbrev fillOf : tie.At-loop2 Inv-loop2 μ-loop2 Inv-loop3 μ-loop3 Inv-loop μ-loop → tie.After-enum-told2 Inv-loop2 μ-loop2 Inv-loop3 μ-loop3 Inv-loop μ-loop
+fillOf c = c .before .before .before
+
+-- the line that the receive reads, and whether there is one
+abbrev lineOf : tie.At-loop2 Inv-loop2 μ-loop2 Inv-loop3 μ-loop3 Inv-loop μ-loop → MessageLine
+lineOf c = getD (jobOf (lowLoop (receiveLow (fillOf c))) .messages) (c .before .before .readable .result) (record { slots = [] })
+
+abbrev lineLeft : tie.At-loop2 Inv-loop2 μ-loop2 Inv-loop3 μ-loop3 Inv-loop μ-loop → Bool
+lineLeft c = let l = lowLoop (receiveLow (fillOf c)) in ltb (l .loop .taken) (jobOf l .«message_count»)
+
+loop2-holds : tie.Need-loop2-holds Inv-loop2 μ-loop2 Inv-loop3 μ-loop3 Inv-loop μ-loop
+loop2-holds c = (omega arith, lowLoop (receiveLow (c .before .before)) .loop .inv .full, λ l. refl)
+
+loop2-again : tie.Need-loop2-again Inv-loop2 μ-loop2 Inv-loop3 μ-loop3 Inv-loop μ-loop
+loop2-again c =
+    let at = c .before .before .before .before in
+    let i = at .loop2 in
+    let low = lowLoop (receiveLow (fillOf at)) in
+    let j = jobOf low in (
+      omega arith,
+      simp length-set (i .inv .1),
+      received-more (j .keys) (j .secrets) (lineOf at .slots) (ready low .1 .keys) (lineLeft at) (i .message) (i .k) (c .received .result) (omega arith) (omega (arith, few (ready low) .keys)) (c .received .ensures) (i .inv .2),
+    )
+
+-- the fields are all filled
+abbrev filledOf : tie.After-ticked Inv-loop2 μ-loop2 Inv-loop3 μ-loop3 Inv-loop μ-loop → tie.After-loop2 Inv-loop2 μ-loop2 Inv-loop3 μ-loop3 Inv-loop μ-loop
+filledOf c = c .before .before .before
+
+abbrev receiveOf : tie.After-ticked Inv-loop2 μ-loop2 Inv-loop3 μ-loop3 Inv-loop μ-loop → tie.After-enum-told2 Inv-loop2 μ-loop2 Inv-loop3 μ-loop3 Inv-loop μ-loop
+receiveOf c = fillOf (filledOf c .before)
+
+after-receive : (c : tie.After-ticked Inv-loop2 μ-loop2 Inv-loop3 μ-loop3 Inv-loop μ-loop) →
     let low = receiveLow (receiveOf c) in
-    Low-kept low (calledBy (c .before .called .result) (c .ticked .result) (withTaken (n .taken-after .result) (withMessage (n .before .receive .result) (heldAt (lowLoop low))))) (lowLoop low .loop .out)
+    let m = filledOf c .before .loop2 .message in
+    Low-kept low (calledBy (c .before .called .result) (c .ticked .result) (withTaken (c .before .before .taken-after .result) (withMessage m (heldAt (lowLoop low))))) (lowLoop low .loop .out)
 after-receive c =
     let n = c .before .before in
-    let m = n .before in
+    let at = filledOf c .before in
+    let i = at .loop2 in
     let t = receiveOf c in
     let low = receiveLow t in
     let l = lowLoop low in
+    let j = jobOf l in
     let call = sym (t .before .before .call-of .ensures) ∙ t .enum-told2 .given .1 in
+    let place = at .before .before .readable in
+    let all : i .k ≡ j .keys = omega (arith, filledOf c .loop2-test .left) in
     goes-on low call (short-receives _ _)
     (receive-turn (ready l) (l .loop .inv .kept .sent) (heldAt l) (l .loop .inv .live) (c .ticked .result) (c .ticked .ensures) (c .before .called .result) (c .before .called .ensures)
-    call (m .before .before .readable .result) (record { slots = [] }) (m .before .before .readable .ensures) (m .receive .result) (m .receive .ensures) (n .taken-after .result) (n .taken-after .ensures) _)
+    call (place .result) (record { slots = [] }) (place .ensures) (i .message) (received-all (j .keys) (j .secrets) (lineOf at .slots) (ready l .1 .keys) (lineLeft at) (i .message) (i .k) all (i .inv .2))
+    (n .taken-after .result) (n .taken-after .ensures) _)
 
 -- a send
-abbrev sendLow : tie.After-enum-told3 Inv-loop μ-loop → tie.After-enum-told Inv-loop μ-loop
+abbrev sendLow : tie.After-enum-told3 Inv-loop2 μ-loop2 Inv-loop3 μ-loop3 Inv-loop μ-loop → tie.After-enum-told Inv-loop2 μ-loop2 Inv-loop3 μ-loop3 Inv-loop μ-loop
 sendLow c = c .before .before .before .before
 
-abbrev roomOf : tie.After-write-line Inv-loop μ-loop → tie.Else3 Inv-loop μ-loop
-roomOf c = c .before .before
-
-abbrev writeOf : tie.After-ticked2 Inv-loop μ-loop → tie.After-write-line Inv-loop μ-loop
-writeOf c = c .before .before .before .before
-
-call-send : (c : tie.After-enum-told3 Inv-loop μ-loop) → let l = lowLoop (sendLow c) in callOf (commandAt (jobOf l .commands) (l .loop .low .place) .op) ≡ Sends
+call-send : (c : tie.After-enum-told3 Inv-loop2 μ-loop2 Inv-loop3 μ-loop3 Inv-loop μ-loop) → let l = lowLoop (sendLow c) in callOf (commandAt (jobOf l .commands) (l .loop .low .place) .op) ≡ Sends
 call-send c = sym (c .before .before .call-of .ensures) ∙ c .enum-told3 .given .1
 
 -- there is no room for its line
-returns-3 : tie.Need-returns-3 Inv-loop μ-loop
+returns-3 : tie.Need-returns-3 Inv-loop2 μ-loop2 Inv-loop3 μ-loop3 Inv-loop μ-loop
 returns-3 c =
     let e = c .before .before in
     let low = sendLow e in
@@ -168,59 +217,103 @@ returns-3 c =
     let full = ap (λ (k : Call). short k (length (l .loop .out) - l .loop .bytes) (10 + 12 * jobOf l .keys)) (call-send e) ∙ short-sends _ _ ∙ lt-ltb _ _ (c .before .if3 .taken) in
     ends (ready l) (i .kept) NoRoom (found-by (ready l) (i .kept) (i .live) (more (lowLetter low)) Low (isLow low) ∙ ap (verdictBy false false) full) (c .ended3 .result) (c .ended3 .ensures)
 
-write-line-requires : tie.Need-write-line-requires Inv-loop μ-loop
-write-line-requires c κs =
-    let e = c .before .before in
-    let l = lowLoop (sendLow e) in
-    (omega (arith, small-at l .positions), record { few = few (ready l) .keys; room = omega (arith, small-at l .room, c .before .if3 .left) })
+-- there is room
+room-now : (c : tie.Else3 Inv-loop2 μ-loop2 Inv-loop3 μ-loop3 Inv-loop μ-loop) → let l = lowLoop (sendLow (c .before)) in l .loop .bytes + (10 + 12 * jobOf l .keys) ≤ length (l .loop .out)
+room-now c = omega (arith, small-at (lowLoop (sendLow (c .before))) .room, c .if3 .left)
 
-after-send : (c : tie.After-ticked2 Inv-loop μ-loop) →
-    let w = writeOf c in
-    let low = sendLow (roomOf w .before) in
+heading-requires : tie.Need-heading-requires Inv-loop2 μ-loop2 Inv-loop3 μ-loop3 Inv-loop μ-loop
+heading-requires c κs = (omega (arith, room-now (c .before)), omega (arith, small-at (lowLoop (sendLow (c .before .before))) .positions))
+
+-- the loop over the keys, from its head
+abbrev headedOf : tie.At-loop3 Inv-loop2 μ-loop2 Inv-loop3 μ-loop3 Inv-loop μ-loop → tie.After-heading Inv-loop2 μ-loop2 Inv-loop3 μ-loop3 Inv-loop μ-loop
+headedOf c = c .before .before .before
+
+abbrev roomOf : tie.At-loop3 Inv-loop2 μ-loop2 Inv-loop3 μ-loop3 Inv-loop μ-loop → tie.Else3 Inv-loop2 μ-loop2 Inv-loop3 μ-loop3 Inv-loop μ-loop
+roomOf c = headedOf c .before .before
+
+abbrev sentFrom : tie.At-loop3 Inv-loop2 μ-loop2 Inv-loop3 μ-loop3 Inv-loop μ-loop → tie.At-loop Inv-loop2 μ-loop2 Inv-loop3 μ-loop3 Inv-loop μ-loop
+sentFrom c = lowLoop (sendLow (roomOf c .before))
+
+-- the line's columns, one for each key
+columns-are : (c : tie.At-loop3 Inv-loop2 μ-loop2 Inv-loop3 μ-loop3 Inv-loop μ-loop) → let l = sentFrom c in let j = jobOf l in length (columnsIn (j .keys) (j .secrets) (l .loop .message)) ≡ j .keys
+columns-are c = let l = sentFrom c in columns-count (jobOf l .keys) (jobOf l .secrets) (l .loop .message) (ready l .1 .keys)
+
+room-left : (c : tie.At-loop3 Inv-loop2 μ-loop2 Inv-loop3 μ-loop3 Inv-loop μ-loop) → let l = sentFrom c in l .loop .bytes + (10 + 12 * jobOf l .keys) ≤ length (c .loop3 .out)
+room-left c = omega (arith, room-now (roomOf c), headedOf c .heading .kept .0, c .loop3 .inv .0)
+
+loop3-again : tie.Need-loop3-again Inv-loop2 μ-loop2 Inv-loop3 μ-loop3 Inv-loop μ-loop
+loop3-again c =
+    let w = c .before .before in
+    let at = w .before .before .before .before .before in
+    let i = at .loop3 in
+    let l = sentFrom at in
+    let j = jobOf l in
+    let es = columnsIn (j .keys) (j .secrets) (l .loop .message) in
+    let column = sym (columns-at (j .keys) (j .secrets) (l .loop .message) (ready l .1 .keys) (i .k) (omega arith)) in (
+      w .key-cell .kept .0 ∙ i .inv .0,
+      omega arith,
+      cells-again (l .loop .bytes) es (i .out) _ (i .k) _ (omega (arith, columns-are at)) (omega (arith, room-left at)) column (w .key-cell .ensures) ∙ i .inv .2,
+    )
+
+-- the line stands: its heading, its cells, its line feed
+abbrev cellsOf : tie.After-ticked2 Inv-loop2 μ-loop2 Inv-loop3 μ-loop3 Inv-loop μ-loop → tie.After-loop3 Inv-loop2 μ-loop2 Inv-loop3 μ-loop3 Inv-loop μ-loop
+cellsOf c = c .before .before .before .before .before .before
+
+abbrev writeOf : tie.After-ticked2 Inv-loop2 μ-loop2 Inv-loop3 μ-loop3 Inv-loop μ-loop → tie.At-loop3 Inv-loop2 μ-loop2 Inv-loop3 μ-loop3 Inv-loop μ-loop
+writeOf c = cellsOf c .before
+
+after-send : (c : tie.After-ticked2 Inv-loop2 μ-loop2 Inv-loop3 μ-loop3 Inv-loop μ-loop) →
+    let low = sendLow (roomOf (writeOf c) .before) in
     let h = heldAt (lowLoop low) in
-    Low-kept low (calledBy (c .before .called2 .result) (c .ticked2 .result) (withBytes (h .bytes + (10 + 12 * jobOf (lowLoop low) .keys)) h)) (w .write-line .last .0)
+    Low-kept low (calledBy (c .before .called2 .result) (c .ticked2 .result) (withBytes (h .bytes + (10 + 12 * jobOf (lowLoop low) .keys)) h)) (c .before .before .before .before .line-end .last .0)
 after-send c =
-    let w = writeOf c in
-    let e = roomOf w .before in
+    let at = writeOf c in
+    let e = roomOf at .before in
     let low = sendLow e in
     let l = lowLoop low in
-    goes-on low (call-send e) (short-sends _ _ ∙ le-ltb _ _ (roomOf w .if3 .left))
+    let j = jobOf l in
+    let i = at .loop3 in
+    let es = columnsIn (j .keys) (j .secrets) (l .loop .message) in
+    let done : i .out ≡ placed (headedOf at .heading .last .0) (cellAt (l .loop .bytes) es 0) (cells es) =
+    sym (cells-end (l .loop .bytes) es (i .out) (i .k) (omega (arith, columns-are at, cellsOf c .loop3-test .left))) ∙ i .inv .2 in
+    let line = line-written (l .loop .out) _ (i .out) (l .loop .bytes) (l .loop .clock .positions) (j .keys) es (columns-are at) (room-now (roomOf at)) (headedOf at .heading .ensures) done in
+    goes-on low (call-send e) (short-sends _ _ ∙ le-ltb _ _ (roomOf at .if3 .left))
     (send-turn (ready l) (l .loop .inv .kept .sent) (heldAt l) (l .loop .inv .live) (c .ticked2 .result) (c .ticked2 .ensures) (c .before .called2 .result) (c .before .called2 .ensures)
-    (call-send e) (10 + 12 * jobOf l .keys) refl _ _ (w .write-line .ensures))
+    (call-send e) (10 + 12 * j .keys) refl _ _ (c .before .before .before .before .line-end .ensures ∙ line))
 
 -- a command that is no call
-abbrev commandLow : tie.After-enum-told4 Inv-loop μ-loop → tie.After-enum-told Inv-loop μ-loop
+abbrev commandLow : tie.After-enum-told4 Inv-loop2 μ-loop2 Inv-loop3 μ-loop3 Inv-loop μ-loop → tie.After-enum-told Inv-loop2 μ-loop2 Inv-loop3 μ-loop3 Inv-loop μ-loop
 commandLow c = c .before .before .before .before
 
 -- the places that its operands name
-abbrev operandsOf : tie.After-index3 Inv-loop μ-loop → tie.After-enum-told4 Inv-loop μ-loop
+abbrev operandsOf : tie.After-index3 Inv-loop2 μ-loop2 Inv-loop3 μ-loop3 Inv-loop μ-loop → tie.After-enum-told4 Inv-loop2 μ-loop2 Inv-loop3 μ-loop3 Inv-loop μ-loop
 operandsOf c = c .before .before .before .before
 
-key-low : (c : tie.After-index Inv-loop μ-loop) → c .index .result < keyCapacity
+key-low : (c : tie.After-index Inv-loop2 μ-loop2 Inv-loop3 μ-loop3 Inv-loop μ-loop) → c .index .result < keyCapacity
 key-low c = let low = commandLow (c .before) in omega (arith, c .index .ensures, operands-low low .k, few (ready (lowLoop low)) .keys)
 
-v-low : (c : tie.After-index2 Inv-loop μ-loop) → c .index2 .result < variables
+v-low : (c : tie.After-index2 Inv-loop2 μ-loop2 Inv-loop3 μ-loop3 Inv-loop μ-loop) → c .index2 .result < variables
 v-low c = omega (arith, c .index2 .ensures, operands-low (commandLow (c .before .before .before)) .v)
 
-w-low : (c : tie.After-index3 Inv-loop μ-loop) → c .index3 .result < variables
+w-low : (c : tie.After-index3 Inv-loop2 μ-loop2 Inv-loop3 μ-loop3 Inv-loop μ-loop) → c .index3 .result < variables
 w-low c = omega (arith, c .index3 .ensures, operands-low (commandLow (operandsOf c)) .w)
 
-abbrev effectLow : tie.After-struct-told Inv-loop μ-loop → tie.After-index3 Inv-loop μ-loop
+abbrev effectLow : tie.After-struct-told Inv-loop2 μ-loop2 Inv-loop3 μ-loop3 Inv-loop μ-loop → tie.After-index3 Inv-loop2 μ-loop2 Inv-loop3 μ-loop3 Inv-loop μ-loop
 effectLow c = c .before .before .before .before .before
 
-abbrev keyLow : tie.After-with Inv-loop μ-loop → tie.After-index Inv-loop μ-loop
+abbrev keyLow : tie.After-with Inv-loop2 μ-loop2 Inv-loop3 μ-loop3 Inv-loop μ-loop → tie.After-index Inv-loop2 μ-loop2 Inv-loop3 μ-loop3 Inv-loop μ-loop
 keyLow c = effectLow (c .before .before .before) .before .before .before
 
-value-low : (c : tie.After-struct-told Inv-loop μ-loop) → toZ w32 (ofZ w32 (c .before .effect-at .result .value)) ≡ c .before .effect-at .result .value
+value-low : (c : tie.After-struct-told Inv-loop2 μ-loop2 Inv-loop3 μ-loop3 Inv-loop μ-loop) → toZ w32 (ofZ w32 (c .before .effect-at .result .value)) ≡ c .before .effect-at .result .value
 value-low c = toZ-ofZ w32 (c .before .effect-at .result .value) (search needs)
 
-held-low : (c : tie.After-holds Inv-loop μ-loop) → toZ w32 (ofZ w32 (c .holds .result)) ≡ c .holds .result
+held-low : (c : tie.After-holds Inv-loop2 μ-loop2 Inv-loop3 μ-loop3 Inv-loop μ-loop) → toZ w32 (ofZ w32 (c .holds .result)) ≡ c .holds .result
 held-low c = toZ-ofZ w32 (c .holds .result) (search needs)
 
-abbrev toldLow : tie.After-ticked3 Inv-loop μ-loop → tie.After-struct-told Inv-loop μ-loop
+abbrev toldLow : tie.After-ticked3 Inv-loop2 μ-loop2 Inv-loop3 μ-loop3 Inv-loop μ-loop → tie.After-struct-told Inv-loop2 μ-loop2 Inv-loop3 μ-loop3 Inv-loop μ-loop
 toldLow c = c .before .before .before .before
 
-after-command : (c : tie.After-ticked3 Inv-loop μ-loop) →
+after-command : (c : tie.After-ticked3 Inv-loop2 μ-loop2 Inv-loop3 μ-loop3 Inv-loop μ-loop) →
     let z = c .before .before in
     let o = effectLow (toldLow c) in
     let low = commandLow (operandsOf o) in
@@ -244,90 +337,91 @@ after-command c =
     goes-on low call (short-neither _ _)
     (command-turn (ready l) (l .loop .inv .kept .sent) (heldAt l) Low (l .loop .inv .live) call
     _ _ _ (ik .index .ensures) (iv .index2 .ensures) (o .index3 .ensures)
-    _ _ (toZ-ofZ w32 (variable x (iv .index2 .result)) (sfits-of (f .before .before .before .effect-at-arg .given))) (toZ-ofZ w32 (variable x (o .index3 .result)) (sfits-of (f .before .before .effect-at-arg2 .given)))
-    _ (f .before .side .ensures) _ (f .effect-at .ensures) _ (sym (ap (λ (k : Call). x .calls + callsBy k) call ∙ add-zero (x .calls))) _ (value-low told)
+    _ _ (toZ-ofZ w32 (variable x (iv .index2 .result)) (sfits-of (f .before .before .effect-at-arg .given))) (toZ-ofZ w32 (variable x (o .index3 .result)) (sfits-of (f .before .effect-at-arg2 .given)))
+    _ (f .before .before .before .side .ensures) _ (f .effect-at .ensures) _ (sym (ap (λ (k : Call). x .calls + callsBy k) call ∙ add-zero (x .calls))) _ (value-low told)
     _ (n .after .ensures) _ (held-low z ∙ z .holds .ensures) _ (w .with .ensures) _ (c .ticked3 .ensures) _)
 
 -- ---- High turns
 
-abbrev highLetter : tie.After-enum-told5 Inv-loop μ-loop → tie.After-level-of Inv-loop μ-loop
+abbrev highLetter : tie.After-enum-told5 Inv-loop2 μ-loop2 Inv-loop3 μ-loop3 Inv-loop μ-loop → tie.After-level-of Inv-loop2 μ-loop2 Inv-loop3 μ-loop3 Inv-loop μ-loop
 highLetter c = c .before .before
 
-abbrev highLoop : tie.After-enum-told5 Inv-loop μ-loop → tie.At-loop Inv-loop μ-loop
+abbrev highLoop : tie.After-enum-told5 Inv-loop2 μ-loop2 Inv-loop3 μ-loop3 Inv-loop μ-loop → tie.At-loop Inv-loop2 μ-loop2 Inv-loop3 μ-loop3 Inv-loop μ-loop
 highLoop c = loopOf (highLetter c)
 
-module _ (c : tie.After-enum-told5 Inv-loop μ-loop) where
-  abbrev high : tie.At-loop Inv-loop μ-loop
+module _ (c : tie.After-enum-told5 Inv-loop2 μ-loop2 Inv-loop3 μ-loop3 Inv-loop μ-loop) where
+  abbrev high : tie.At-loop Inv-loop2 μ-loop2 Inv-loop3 μ-loop3 Inv-loop μ-loop
   high = highLoop c
 
   -- what the high execution's turn leaves; the low one goes on from where it is
-  passes : {h : Held} → Turned (jobOf high) High (high .loop .inv .kept .sent) (heldAt high) h (high .loop .out) (high .loop .out) → h .low ≡ high .loop .low
+  passes : {h : Held} → Turned (jobOf high) High (high .loop .inv .kept .sent) (heldAt high) h (high .loop .out) (high .loop .out) → h .low ≡ high .loop .low → length (h .message) ≡ keyCapacity
       → Inv (jobOf high) (callerOf high .args .out .now) h (high .loop .out)
-  passes t same =
+  passes t same full =
       let i = high .loop .inv in
       record {
         kept = again (ready high) (i .kept) (i .live) (more (highLetter c)) High (level-is (highLetter c) ∙ c .enum-told5 .given .1) refl t;
+        full = full;
         live = omega (arith, i .live, ap (λ (x : Execution). x .place) same);
       }
 
-loop-again-4 : tie.Need-loop-again-4 Inv-loop μ-loop
+loop-again-4 : tie.Need-loop-again-4 Inv-loop2 μ-loop2 Inv-loop3 μ-loop3 Inv-loop μ-loop
 loop-again-4 c =
     let t = c .before .before in
     let l = highLoop t in
-    passes t (idle-at-end (ready l) (l .loop .inv .kept .sent) (heldAt l) High refl (c .before .if6 .taken) _ (c .ticked4 .ensures) _) refl
+    passes t (idle-at-end (ready l) (l .loop .inv .kept .sent) (heldAt l) High refl (c .before .if6 .taken) _ (c .ticked4 .ensures) _) refl (l .loop .inv .full)
 
 -- the high execution is not at the end
-abbrev highOf : tie.Else6 Inv-loop μ-loop → tie.After-enum-told5 Inv-loop μ-loop
+abbrev highOf : tie.Else6 Inv-loop2 μ-loop2 Inv-loop3 μ-loop3 Inv-loop μ-loop → tie.After-enum-told5 Inv-loop2 μ-loop2 Inv-loop3 μ-loop3 Inv-loop μ-loop
 highOf c = c .before
 
-high-live : (c : tie.Else6 Inv-loop μ-loop) → let l = highLoop (highOf c) in l .loop .high .place < jobOf l .«command_count»
+high-live : (c : tie.Else6 Inv-loop2 μ-loop2 Inv-loop3 μ-loop3 Inv-loop μ-loop) → let l = highLoop (highOf c) in l .loop .high .place < jobOf l .«command_count»
 high-live c = omega (arith, c .if6 .left)
 
-abbrev goingOf : tie.After-waits Inv-loop μ-loop → tie.Else6 Inv-loop μ-loop
+abbrev goingOf : tie.After-waits Inv-loop2 μ-loop2 Inv-loop3 μ-loop3 Inv-loop μ-loop → tie.Else6 Inv-loop2 μ-loop2 Inv-loop3 μ-loop3 Inv-loop μ-loop
 goingOf c = c .before .before .before
 
-waits-is : (c : tie.After-waits Inv-loop μ-loop) →
+waits-is : (c : tie.After-waits Inv-loop2 μ-loop2 Inv-loop3 μ-loop3 Inv-loop μ-loop) →
     let l = highLoop (highOf (goingOf c)) in
     waits (callOf (commandAt (jobOf l .commands) (l .loop .high .place) .op)) (l .loop .low .calls) (l .loop .high .calls) ≡ c .waits .result
 waits-is c =
     let l = highLoop (highOf (goingOf c)) in
     sym (c .waits .ensures ∙ ap (λ (k : Call). waits k (l .loop .low .calls) (l .loop .high .calls)) (c .before .call-of2 .ensures))
 
-loop-again-5 : tie.Need-loop-again-5 Inv-loop μ-loop
+loop-again-5 : tie.Need-loop-again-5 Inv-loop2 μ-loop2 Inv-loop3 μ-loop3 Inv-loop μ-loop
 loop-again-5 c =
     let w = c .before .before in
     let g = goingOf w in
     let l = highLoop (highOf g) in
-    passes (highOf g) (idle-waiting (ready l) (l .loop .inv .kept .sent) (heldAt l) High (high-live g) refl (waits-is w ∙ c .before .if7 .taken) _ (c .ticked5 .ensures) _) refl
+    passes (highOf g) (idle-waiting (ready l) (l .loop .inv .kept .sent) (heldAt l) High (high-live g) refl (waits-is w ∙ c .before .if7 .taken) _ (c .ticked5 .ensures) _) refl (l .loop .inv .full)
 
-abbrev movesOf : tie.After-index6 Inv-loop μ-loop → tie.Else7 Inv-loop μ-loop
+abbrev movesOf : tie.After-index6 Inv-loop2 μ-loop2 Inv-loop3 μ-loop3 Inv-loop μ-loop → tie.Else7 Inv-loop2 μ-loop2 Inv-loop3 μ-loop3 Inv-loop μ-loop
 movesOf c = c .before .before .before .before
 
-operands-high : (c : tie.Else7 Inv-loop μ-loop) → let l = highLoop (highOf (goingOf (c .before))) in Within (jobOf l .keys) (jobOf l .«command_count») (commandAt (jobOf l .commands) (l .loop .high .place))
+operands-high : (c : tie.Else7 Inv-loop2 μ-loop2 Inv-loop3 μ-loop3 Inv-loop μ-loop) → let l = highLoop (highOf (goingOf (c .before))) in Within (jobOf l .keys) (jobOf l .«command_count») (commandAt (jobOf l .commands) (l .loop .high .place))
 operands-high c = let g = goingOf (c .before) in let l = highLoop (highOf g) in operands-at (ready l) (l .loop .high .place) (high-live g)
 
-key-high : (c : tie.After-index4 Inv-loop μ-loop) → c .index4 .result < keyCapacity
+key-high : (c : tie.After-index4 Inv-loop2 μ-loop2 Inv-loop3 μ-loop3 Inv-loop μ-loop) → c .index4 .result < keyCapacity
 key-high c = omega (arith, c .index4 .ensures, operands-high (c .before) .k, few (ready (highLoop (highOf (goingOf (c .before .before))))) .keys)
 
-v-high : (c : tie.After-index5 Inv-loop μ-loop) → c .index5 .result < variables
+v-high : (c : tie.After-index5 Inv-loop2 μ-loop2 Inv-loop3 μ-loop3 Inv-loop μ-loop) → c .index5 .result < variables
 v-high c = omega (arith, c .index5 .ensures, operands-high (c .before .before .before) .v)
 
-w-high : (c : tie.After-index6 Inv-loop μ-loop) → c .index6 .result < variables
+w-high : (c : tie.After-index6 Inv-loop2 μ-loop2 Inv-loop3 μ-loop3 Inv-loop μ-loop) → c .index6 .result < variables
 w-high c = omega (arith, c .index6 .ensures, operands-high (movesOf c) .w)
 
-abbrev effectHigh : tie.After-struct-told2 Inv-loop μ-loop → tie.After-index6 Inv-loop μ-loop
+abbrev effectHigh : tie.After-struct-told2 Inv-loop2 μ-loop2 Inv-loop3 μ-loop3 Inv-loop μ-loop → tie.After-index6 Inv-loop2 μ-loop2 Inv-loop3 μ-loop3 Inv-loop μ-loop
 effectHigh c = c .before .before .before .before .before .before
 
-abbrev keyHigh : tie.After-with2 Inv-loop μ-loop → tie.After-index4 Inv-loop μ-loop
+abbrev keyHigh : tie.After-with2 Inv-loop2 μ-loop2 Inv-loop3 μ-loop3 Inv-loop μ-loop → tie.After-index4 Inv-loop2 μ-loop2 Inv-loop3 μ-loop3 Inv-loop μ-loop
 keyHigh c = effectHigh (c .before .before .before) .before .before .before
 
-value-high : (c : tie.After-struct-told2 Inv-loop μ-loop) → toZ w32 (ofZ w32 (c .before .before .effect-at2 .result .value)) ≡ c .before .before .effect-at2 .result .value
+value-high : (c : tie.After-struct-told2 Inv-loop2 μ-loop2 Inv-loop3 μ-loop3 Inv-loop μ-loop) → toZ w32 (ofZ w32 (c .before .before .effect-at2 .result .value)) ≡ c .before .before .effect-at2 .result .value
 value-high c = toZ-ofZ w32 (c .before .before .effect-at2 .result .value) (search needs)
 
-held-high : (c : tie.After-holds2 Inv-loop μ-loop) → toZ w32 (ofZ w32 (c .holds2 .result)) ≡ c .holds2 .result
+held-high : (c : tie.After-holds2 Inv-loop2 μ-loop2 Inv-loop3 μ-loop3 Inv-loop μ-loop) → toZ w32 (ofZ w32 (c .holds2 .result)) ≡ c .holds2 .result
 held-high c = toZ-ofZ w32 (c .holds2 .result) (search needs)
 
-loop-again-6 : tie.Need-loop-again-6 Inv-loop μ-loop
+loop-again-6 : tie.Need-loop-again-6 Inv-loop2 μ-loop2 Inv-loop3 μ-loop3 Inv-loop μ-loop
 loop-again-6 c =
     let w = c .before in
     let z = w .before in
@@ -345,20 +439,26 @@ loop-again-6 c =
     passes (highOf g)
     (command-turn (ready l) (l .loop .inv .kept .sent) (heldAt l) High (high-live g) (waits-is (e .before) ∙ e .if7 .left)
     _ _ _ (ik .index4 .ensures) (iv .index5 .ensures) (o .index6 .ensures)
-    _ _ (toZ-ofZ w32 (variable x (iv .index5 .result)) (sfits-of (f .before .before .before .effect-at-arg3 .given))) (toZ-ofZ w32 (variable x (o .index6 .result)) (sfits-of (f .before .before .effect-at-arg4 .given)))
-    _ (f .before .side2 .ensures) _ (f .effect-at2 .ensures) _ (ap (λ (m : ℕ). x .calls + m) (by .calls-by .ensures .0 ∙ ap callsBy (e .before .before .call-of2 .ensures))) _ (value-high told)
+    _ _ (toZ-ofZ w32 (variable x (iv .index5 .result)) (sfits-of (f .before .before .effect-at-arg3 .given))) (toZ-ofZ w32 (variable x (o .index6 .result)) (sfits-of (f .before .effect-at-arg4 .given)))
+    _ (f .before .before .before .side2 .ensures) _ (f .effect-at2 .ensures) _ (ap (λ (m : ℕ). x .calls + m) (by .calls-by .ensures .0 ∙ ap callsBy (e .before .before .call-of2 .ensures))) _ (value-high told)
     _ (n .after2 .ensures) _ (held-high z ∙ z .holds2 .ensures) _ (w .with2 .ensures) _ (c .ticked6 .ensures) _)
-    refl
+    refl (simp length-set (l .loop .inv .full))
 
 -- ---- All of it
+
+-- a key's place in a loop over the keys
+key-in : (c : tie.In-loop2 Inv-loop2 μ-loop2 Inv-loop3 μ-loop3 Inv-loop μ-loop) → c .before .loop2 .k < keyCapacity
+key-in c = omega (arith, c .loop2-test .taken, few (ready (lowLoop (receiveLow (fillOf (c .before))))) .keys)
+
+key-out : (c : tie.In-loop3 Inv-loop2 μ-loop2 Inv-loop3 μ-loop3 Inv-loop μ-loop) → c .before .loop3 .k < keyCapacity
+key-out c = omega (arith, c .loop3-test .taken, few (ready (sentFrom (c .before))) .keys)
 
 pub run-job-spec : {M : Type 1} → statement M
 run-job-spec =
     tie.close
     (tie.spec
-    Inv-loop
-    μ-loop
-    (λ c. omega (arith, few (c .before .before .pre) .keys)) (λ c. omega (arith, few (c .before .before .pre) .keys))
+    Inv-loop2 μ-loop2 Inv-loop3 μ-loop3 Inv-loop μ-loop
+    (λ c. omega (arith, few (c .before .pre) .keys)) (λ c. omega (arith, few (c .before .pre) .keys))
     (λ c κs. search needs) (λ c κs. search needs) (λ c κs. search needs) (λ c κs. search needs)
     loop-holds
     ended-requires
@@ -369,34 +469,46 @@ run-job-spec =
     (λ c. omega (arith, lowLoop c .loop .inv .live, few (ready (lowLoop c)) .commands)) (λ c. omega (arith, lowLoop c .loop .inv .live, few (ready (lowLoop c)) .commands))
     (λ c κs. search needs) (λ c. search needs) (λ c κs. search needs)
     (λ c. omega (arith, line-below c)) (λ c. omega (arith, line-below c))
-    (λ c κs. few (ready (lowLoop (receiveLow (c .before .before)))) .keys)
+    loop2-holds
+    (λ c. omega (arith, key-in c)) (λ c. omega (arith, key-in c)) (λ c. omega (arith, key-in (c .before))) (λ c. omega (arith, key-in (c .before)))
     (λ c κs. search needs)
-    (λ c κs. calls-low (lowLoop (receiveLow (c .before .before .before .before))))
-    (λ c κs. ticks (lowLoop (receiveLow (c .before .before .before .before .before))))
+    (λ c. omega (arith, key-in (c .before .before .before))) (λ c. omega (arith, key-in (c .before .before .before)))
+    (λ c. omega (arith, key-in (c .before .before .before)))
+    (λ c. omega (arith, c .before .before .before .loop2-test .taken))
+    loop2-again
+    (λ c κs. search needs)
+    (λ c κs. calls-low (lowLoop (receiveLow (fillOf (c .before .before)))))
+    (λ c κs. ticks (lowLoop (receiveLow (fillOf (c .before .before .before)))))
     (λ c κs. let t = c .before in counts-fit (ready (lowLoop (receiveLow (receiveOf t)))) (after-receive t))
     (λ c. let t = c .before .before in same-length (ready (lowLoop (receiveLow (receiveOf t)))) (after-receive t))
     (λ c. let t = c .before .before in stops (receiveLow (receiveOf t)) (after-receive t) (c .before .if2 .taken) (c .ended2 .result) (c .ended2 .ensures))
     (λ c. let t = c .before in fewer (lowLetter (receiveLow (receiveOf t))) Low _ (t .ticked .ensures))
-    (λ c. record { kept = after-receive (c .before); live = omega (arith, c .if2 .left) })
+    (λ c. record { kept = after-receive (c .before); full = filledOf (c .before) .before .loop2 .inv .1; live = omega (arith, c .if2 .left) })
     (λ c. search needs)
     (λ c. omega (arith, small-at (lowLoop (sendLow c)) .room))
     (λ c κs. let l = lowLoop (sendLow (c .before)) in counts-fit (ready l) (l .loop .inv .kept))
     (λ c. let l = lowLoop (sendLow (c .before .before)) in same-length (ready l) (l .loop .inv .kept))
     returns-3
-    write-line-requires
-    (λ c. omega (arith, small-at (lowLoop (sendLow (roomOf (c .before .before) .before))) .bytes, few (ready (lowLoop (sendLow (roomOf (c .before .before) .before)))) .keys))
-    (λ c κs. calls-low (lowLoop (sendLow (roomOf (c .before .before) .before))))
-    (λ c κs. ticks (lowLoop (sendLow (roomOf (c .before .before .before) .before))))
-    (λ c κs. let t = c .before in counts-fit (ready (lowLoop (sendLow (roomOf (writeOf t) .before)))) (after-send t))
-    (λ c. let t = c .before .before in same-length (ready (lowLoop (sendLow (roomOf (writeOf t) .before)))) (after-send t))
+    heading-requires
+    (λ c. (refl, omega arith, refl))
+    (λ c. omega (arith, key-out c)) (λ c. omega (arith, key-out c)) (λ c. omega (arith, key-out (c .before))) (λ c. omega (arith, key-out (c .before)))
+    (λ c κs. let i = c .before .before .before in (key-out i, omega (arith, room-left (i .before), i .loop3-test .taken)))
+    (λ c. omega (arith, key-out (c .before .before .before .before .before .before)))
+    (λ c. omega (arith, c .before .before .before .before .before .before .loop3-test .taken))
+    loop3-again
+    (λ c κs. let at = c .before .before in (few (ready (sentFrom at)) .keys, room-left at))
+    (λ c. let l = sentFrom (c .before .before .before .before .before) in omega (arith, small-at l .bytes, few (ready l) .keys))
+    (λ c κs. calls-low (sentFrom (c .before .before .before .before .before)))
+    (λ c κs. ticks (sentFrom (c .before .before .before .before .before .before)))
+    (λ c κs. let t = c .before in counts-fit (ready (sentFrom (writeOf t))) (after-send t))
+    (λ c. let t = c .before .before in same-length (ready (sentFrom (writeOf t))) (after-send t))
     (λ c. let t = c .before .before in stops (sendLow (roomOf (writeOf t) .before)) (after-send t) (c .before .if4 .taken) (c .ended4 .result) (c .ended4 .ensures))
     (λ c. let t = c .before in fewer (lowLetter (sendLow (roomOf (writeOf t) .before))) Low _ (t .ticked2 .ensures))
-    (λ c. record { kept = after-send (c .before); live = omega (arith, c .if4 .left) })
+    (λ c. record { kept = after-send (c .before); full = sentFrom (writeOf (c .before)) .loop .inv .full; live = omega (arith, c .if4 .left) })
     (λ c. search needs) (λ c κs. search needs)
-    (λ c. omega (arith, key-low c)) (λ c. omega (arith, key-low c)) (λ c κs. search needs) (λ c κs. search needs)
-    (λ c. omega (arith, v-low (c .before))) (λ c. omega (arith, v-low (c .before)))
-    (λ c. omega (arith, w-low (c .before))) (λ c. omega (arith, w-low (c .before)))
-    (λ c κs. search needs)
+    (λ c. omega (arith, key-low c)) (λ c. omega (arith, key-low c)) (λ c κs. search needs) (λ c κs. search needs) (λ c κs. search needs)
+    (λ c. omega (arith, v-low (c .before .before))) (λ c. omega (arith, v-low (c .before .before)))
+    (λ c. omega (arith, w-low (c .before .before))) (λ c. omega (arith, w-low (c .before .before)))
     (λ c κs. lowLoop (commandLow (operandsOf (c .before .before .before))) .loop .inv .live)
     (λ c κs. v-low (effectLow c .before))
     (λ c κs. v-low (effectLow (c .before) .before))
@@ -408,7 +520,7 @@ run-job-spec =
     (λ c. let t = c .before .before in same-length (ready (lowLoop (commandLow (keyLow (t .before) .before)))) (after-command t))
     (λ c. let t = c .before .before in stops (commandLow (keyLow (t .before) .before)) (after-command t) (c .before .if5 .taken) (c .ended5 .result) (c .ended5 .ensures))
     (λ c. let t = c .before in fewer (lowLetter (commandLow (keyLow (t .before) .before))) Low _ (t .ticked3 .ensures))
-    (λ c. record { kept = after-command (c .before); live = omega (arith, c .if5 .left) })
+    (λ c. record { kept = after-command (c .before); full = simp length-set (lowLoop (commandLow (keyLow (c .before .before) .before)) .loop .inv .full); live = omega (arith, c .if5 .left) })
     (λ c. search needs)
     (λ c κs. ticks (highLoop (c .before)))
     (λ c. fewer (highLetter (c .before .before)) High _ (c .ticked4 .ensures))
@@ -419,10 +531,9 @@ run-job-spec =
     (λ c. fewer (highLetter (highOf (goingOf (c .before .before)))) High _ (c .ticked5 .ensures))
     loop-again-5
     (λ c κs. search needs)
-    (λ c. omega (arith, key-high c)) (λ c. omega (arith, key-high c)) (λ c κs. search needs) (λ c κs. search needs)
-    (λ c. omega (arith, v-high (c .before))) (λ c. omega (arith, v-high (c .before)))
-    (λ c. omega (arith, w-high (c .before))) (λ c. omega (arith, w-high (c .before)))
-    (λ c κs. search needs)
+    (λ c. omega (arith, key-high c)) (λ c. omega (arith, key-high c)) (λ c κs. search needs) (λ c κs. search needs) (λ c κs. search needs)
+    (λ c. omega (arith, v-high (c .before .before))) (λ c. omega (arith, v-high (c .before .before)))
+    (λ c. omega (arith, w-high (c .before .before))) (λ c. omega (arith, w-high (c .before .before)))
     (λ c κs. high-live (goingOf (movesOf (c .before .before .before) .before)))
     (λ c κs. search needs)
     (λ c. omega (arith, c .calls-by .ensures .1, small-at (highLoop (highOf (goingOf (movesOf (c .before .before .before .before .before) .before)))) .calls High))
