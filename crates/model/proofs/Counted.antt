@@ -6,13 +6,18 @@ use mathlib.Core.List.{List, [], _∷_, _++_}
 use lib.ListN.{length, take, length-append}
 use borrow.Author.Tests.{ltb-false}
 use native.Mathlib.{Omega.arith, Nat.zero-add, Nat.le-refl, Nat.mul-suc, Numerals.add-one, Numerals.one-add}
-use Rattle.model.specs.{Step.callOf, Step.callsBy, Step.does, Job.Job, State.Process, State.Processes, State.Incoming, State.State, State.fieldsOf, State.step, State.command}
-use Rattle.model.specs.{State.stopped, State.refill, State.Role, State.leads, State.follows, State.role, State.leader, State.at, State.put, State.takenOf, State.takes}
-use Rattle.model.specs.{State.sends, State.stepsBy, State.ticked, State.process, Run.Outcome, Run.share, Run.lead, Run.followed, Run.follow, Run.moved, Run.turn, Run.ended}
-use Rattle.model.specs.{Run.settle, Run.run, Run.initial, Run.fresh, Run.runJob, Message.received, Message.receive, Message.columns, Message.lineNow, Message.send, Line.lineLength}
-use Rattle.model.specs.{Verdict.short, Verdict.lacking, Verdict.noRoom, Verdict.verdictBy, Verdict.verdict, Verdict.idles, Counted.lowsBy, Counted.lows, Counted.Counted}
+use Rattle.model.specs.{Step.callOf, Step.callsBy, Step.does, Job.Job, State.Process, State.Processes, State.Incoming, State.State, State.fieldsOf, State.step}
+use Rattle.model.specs.{State.command}
+use Rattle.model.specs.{State.stopped, State.refill, State.Role, State.leads, State.follows, State.role, State.leader, State.at, State.put, State.takenOf}
+use Rattle.model.specs.{State.takes}
+use Rattle.model.specs.{State.sends, State.stepsBy, State.process, Run.Outcome, Run.share, Run.lead, Run.followed, Run.follow, Run.moved, Run.turn, Run.ended}
+use Rattle.model.specs.{Run.settle, Run.run, Run.initial, Run.fresh, Run.runJob, Message.received, Message.receive, Message.columns, Message.lineNow}
+use Rattle.model.specs.{Message.send, Line.lineLength}
+use Rattle.model.specs.{Verdict.short, Verdict.lacking, Verdict.noRoom, Verdict.verdictBy, Verdict.verdict, Verdict.idles, Counted.lowsBy, Counted.lows}
+use Rattle.model.specs.{Counted.Counted}
 use Rattle.model.specs.Data.{Entry, Key, Command, Call, Neither, Receives, Sends, Level, Low, High, Ending, Stopped, LettersUsed, NoRoom, Clock}
-use Rattle.model.proofs.{Accepted.every-snoc, Levels.Changed, Levels.same, Levels.other, Levels.changed, Levels.at-each, Turn.clock-kept, Turn.turn-clock, Line.Lined, Line.bytes-length}
+use Rattle.model.proofs.{Accepted.every-snoc, Levels.Changed, Levels.same, Levels.other, Levels.changed, Levels.at-each, Turn.clock-kept, Turn.turn-clock}
+use Rattle.model.proofs.{Line.Lined, Line.bytes-length}
 
 columns-length : (i : ℕ) (ks : List Key) (f : Level → List Entry) → length (columns i ks f) ≡ length ks
 unfolding columns
@@ -129,7 +134,9 @@ module _ (ks : List Key) (lent all : ℕ) where
           room = m .room;
           taken = m .taken;
           sent = m .sent;
-          calls = λ n. put-calls (changed leader n) (step (length cs) c own) (t .processes) (λ k. callsAt k s + 1) (omega (arith, step-calls (length cs) c own, shared-calls (callOf (c .op)) s leader)) (m .calls n);
+          calls = λ n.
+              put-calls (changed leader n) (step (length cs) c own) (t .processes) (λ k. callsAt k s + 1)
+              (omega (arith, step-calls (length cs) c own, shared-calls (callOf (c .op)) s leader)) (m .calls n);
         }
     after-move follows l s e h =
         let first = process leader s in

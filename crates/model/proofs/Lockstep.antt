@@ -5,11 +5,13 @@ use mathlib.Core.Logic.{_≢_}
 use mathlib.Core.List.{List, [], _∷_, _++_}
 use lib.{ListN.length, ListN.getD, ListN.drop, Seq.getD-drop}
 use native.Mathlib.Numerals.{one-add}
-use Rattle.model.specs.{Step.callOf, State.Process, State.Processes, State.Sent, State.Incoming, State.Outgoing, State.State, State.fieldsOf, State.refill, State.step}
+use Rattle.model.specs.{Step.callOf, State.Process, State.Sent, State.Incoming, State.Outgoing, State.State, State.fieldsOf, State.refill, State.step}
 use Rattle.model.specs.{State.command, State.Role, State.leads, State.follows, State.role, State.leader, State.takenOf, State.takes}
-use Rattle.model.specs.{State.sends, State.ticked, State.process, State.withProcess, Run.Outcome, Run.share, Run.counted, Run.lead, Run.followed, Run.follow, Run.moved}
+use Rattle.model.specs.{State.sends, State.ticked, State.process, State.withProcess, Run.Outcome, Run.share, Run.counted, Run.lead, Run.followed, Run.follow}
+use Rattle.model.specs.{Run.moved}
 use Rattle.model.specs.{Run.turn, Run.ended, Run.settle, Run.run, Run.initial, Message.shown, Message.source, Message.fill, Message.received, Message.receive}
-use Rattle.model.specs.{Message.columns, Message.lineNow, Message.send, Line.lineLength, Verdict.Verdict, Verdict.GoesOn, Verdict.Ends, Verdict.lacking, Verdict.noRoom}
+use Rattle.model.specs.{Message.columns, Message.lineNow, Message.send, Line.lineLength, Verdict.Verdict, Verdict.GoesOn, Verdict.Ends, Verdict.lacking}
+use Rattle.model.specs.{Verdict.noRoom}
 use Rattle.model.specs.Verdict.{verdict}
 use Rattle.model.proofs.Levels.{Changed, same, other, changed, at-each}
 use Rattle.model.specs.Data.{Entry, Absent, Key, Open, Secret, Command, Call, Neither, Receives, Sends, Level, Low, High, Ending, LettersUsed, Clock}

@@ -6,8 +6,10 @@ use mathlib.Core.List.{List}
 use native.Mathlib.Omega.{arith}
 use lib.{IntN.ℤ, IntN.pos, ListN.length, ListN.getD, Seq.set-getD}
 use Rattle.model.specs.{Step.variable, Step.calledOf, Step.made, Step.effectBy, Step.steppedBy, Step.does, Step.callOf, Step.callsBy, State.Process, State.Processes}
-use Rattle.model.specs.{State.entry, State.stored, State.step, State.command, State.stopped, State.Role, State.leads, State.follows, State.role, State.leader, State.ticked, State.State}
-use Rattle.model.specs.{State.process, State.withProcess, Message.receive, Message.send, Verdict.idles, Run.share, Run.lead, Run.followed, Run.follow, Run.moved, Run.counted, Run.turn}
+use Rattle.model.specs.{State.entry, State.stored, State.step, State.command, State.stopped, State.Role, State.leads, State.follows, State.role, State.leader}
+use Rattle.model.specs.{State.ticked, State.State}
+use Rattle.model.specs.{State.process, State.withProcess, Message.receive, Message.send, Verdict.idles, Run.share, Run.lead, Run.followed, Run.follow, Run.moved}
+use Rattle.model.specs.{Run.counted, Run.turn}
 use Rattle.model.specs.Data.{Entry, Absent, Key, Op, Set, Add, Sub, Mul, Div, Read, Has, Put, Drop, IfNeg, IfZero, Jump, Receive, Send, Stop, Command, Call, Neither}
 use Rattle.model.specs.Data.{Receives, Sends, Level, Low, High, Execution}
 use Rattle.model.proofs.Levels.{put-at}
@@ -93,15 +95,21 @@ module _ (ks : List Key) (cs : List Command) (s : State) where
   pub turn-idle : (l : Level) → role l ≡ follows → idlesAt l ≡ true → turn ks cs l s ≡ counted l s
   unfolding turn follow followed
   turn-idle Low f e = absurd (leads-not-follows f)
-  turn-idle High f e = ap (followedBy High) e ∙ ap (λ (ps : Processes). counted High (record { processes = ps; incoming = s .incoming; outgoing = s .outgoing; clock = s .clock })) (put-at High (s .processes))
+  turn-idle High f e =
+      ap (followedBy High) e
+      ∙ ap (λ (ps : Processes). counted High (record { processes = ps; incoming = s .incoming; outgoing = s .outgoing; clock = s .clock })) (put-at High (s .processes))
 
   pub turn-receive : callAt leader ≡ Receives → turn ks cs leader s ≡ counted leader (withProcess leader (called (process leader (receive ks s))) (receive ks s))
   unfolding share
-  turn-receive e = leading Receives e ∙ ap (λ (p : Process). counted leader (withProcess leader p (receive ks s))) (call-step (length cs) (command cs (process leader s)) (process leader (receive ks s)) Receives e refl)
+  turn-receive e =
+      leading Receives e
+      ∙ ap (λ (p : Process). counted leader (withProcess leader p (receive ks s))) (call-step (length cs) (command cs (process leader s)) (process leader (receive ks s)) Receives e refl)
 
   pub turn-send : callAt leader ≡ Sends → turn ks cs leader s ≡ counted leader (withProcess leader (called (process leader s)) (send ks s))
   unfolding share send
-  turn-send e = leading Sends e ∙ ap (λ (p : Process). counted leader (withProcess leader p (send ks s))) (call-step (length cs) (command cs (process leader s)) (process leader s) Sends e refl)
+  turn-send e =
+      leading Sends e
+      ∙ ap (λ (p : Process). counted leader (withProcess leader p (send ks s))) (call-step (length cs) (command cs (process leader s)) (process leader s) Sends e refl)
 
   -- every kind of turn moves the clock, and nothing else does
   pub clock-kept : (r : Role) (l : Level) → moved r ks cs l s .clock ≡ s .clock

@@ -6,7 +6,8 @@ use mathlib.Core.List.{List, [], _∷_}
 use mathlib.Core.Path.{_≡_}
 use Rattle.model.specs.{Limits.greatestNumber, Limits.variables, Form.formOne, Command.Row}
 use Rattle.model.specs.{Command.table, Job.Job, Sheet.accepted, Sheet.readSheet, Parsed.got, Pair.pair}
-use Rattle.model.specs.Data.{Form, Entry, Absent, Number, Key, Open, Secret, Op, Set, Add, Sub, Mul, Div, Read, Has, Put, Drop, IfNeg, IfZero, Jump, Receive, Send, Stop}
+use Rattle.model.specs.Data.{Form, Entry, Absent, Number, Key, Open, Secret, Op, Set, Add, Sub, Mul, Div, Read, Has, Put, Drop, IfNeg, IfZero, Jump, Receive}
+use Rattle.model.specs.Data.{Send, Stop}
 use Rattle.model.specs.Data.{Command, Operand, InV, InW, InK, InT, InN}
 
 -- "from -2147483648 to 2147483647": `mag` of a number n is n, and of -(n + 1) it is n too

@@ -4,7 +4,7 @@ use mathlib.Core.Bool.{cond}
 use mathlib.Core.List.{List, map}
 use lib.{Dec.eqb, ListN.length, ListN.take, ListN.replicate}
 use Rattle.model.specs.{Command.blank, Job.Job, Turns.letterL}
-use Rattle.model.specs.Data.{Entry, Absent, Field, Key, Open, Stop, Command, Level, Low, High, KeySlot, EntrySlot, MessageLine, StoredJob}
+use Rattle.model.specs.Data.{Entry, Absent, Field, Key, Open, Stop, Level, Low, High, KeySlot, EntrySlot, MessageLine, StoredJob}
 
 -- what the arrays hold: the constants of src/lib.rt
 abbrev pub keyCapacity : ℕ

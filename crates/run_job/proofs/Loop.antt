@@ -1,20 +1,22 @@
 -- What the loop over the letters keeps, over one stored job and what the run holds of its state: what the rest of the run comes to, the bounds, and the
 -- output memory. A turn enters by what it leaves (`Turned`), of whatever kind it is.
-use Prim.Native.Nat.{ℕ, suc, _+_, _-_, _*_, _<_, _≤_}
+use Prim.Native.Nat.{ℕ, _+_, _-_, _*_, _<_, _≤_}
 use mathlib.Core.Path.{_≡_, refl, sym, ap, ap₂, subst, _∙_}
-use mathlib.Core.Bool.{Bool, true, false, cond}
-use mathlib.Core.List.{List, [], _∷_, _++_, append-assoc, append-nil}
-use native.Mathlib.{Omega.arith, Nat.zero-add, Nat.le-trans, Nat.mul-le-mul}
+use mathlib.Core.Bool.{Bool, false}
+use mathlib.Core.List.{List, [], _∷_, _++_, append-assoc}
+use native.Mathlib.{Omega.arith, Nat.zero-add, Nat.mul-le-mul}
 use lib.{Dec.leb, Dec.ltb, ListN.length, ListN.getD, ListN.drop, ListN.replicate}
 use borrow.Author.Tests.{lt-leb, le-leb}
-use Rattle.model.specs.{Limits.mostLetters, Step.begun, Step.callOf, Stored.levelOf, Stored.jobOf, Stored.held, Stored.keyCapacity, Stored.messageCapacity, Stored.letterCapacity}
-use Rattle.model.specs.{State.Process, State.Sent, State.command, State.stopped, State.role, State.started, State.ticked, State.State, State.process, Line.lineLength, Line.lineBytes}
-use Rattle.model.specs.{Line.bytesOf, Line.memoryAfter, Verdict.GoesOn, Verdict.Ends, Verdict.Verdict, Verdict.short, Verdict.allUsed, Verdict.lacking, Verdict.noRoom, Verdict.verdictBy}
-use Rattle.model.specs.{Verdict.verdict, Run.turn, Run.Outcome, Run.ended, Run.run, Run.fresh, Run.initial, Run.runJob, Answer.left, Answer.leftBy}
+use Rattle.model.specs.{Step.begun, Step.callOf, Stored.levelOf, Stored.jobOf, Stored.held, Stored.keyCapacity, Stored.messageCapacity, Stored.letterCapacity}
+use Rattle.model.specs.{State.Process, State.Sent, State.command, State.stopped, State.role, State.started, State.ticked, State.State, State.process, Line.lineLength}
+use Rattle.model.specs.{Line.lineBytes}
+use Rattle.model.specs.{Line.bytesOf, Line.memoryAfter, Verdict.GoesOn, Verdict.Ends, Verdict.Verdict, Verdict.short, Verdict.allUsed, Verdict.lacking, Verdict.noRoom}
+use Rattle.model.specs.{Verdict.verdictBy}
+use Rattle.model.specs.{Verdict.verdict, Run.turn, Run.ended, Run.run, Run.fresh, Run.initial, Run.runJob, Answer.left, Answer.leftBy}
 use Rattle.model.specs.State as State
-use Rattle.model.specs.declared.{Entry.Entry, Entry.the-variants.Absent, Field.Field, Key.Key, Command.Command, Call.Call, Level.Level, Execution.Execution, Clock.Clock}
+use Rattle.model.specs.declared.{Entry.the-variants.Absent, Field.Field, Key.Key, Command.Command, Level.Level, Execution.Execution, Clock.Clock}
 use Rattle.model.specs.declared.{Ending.Ending, Answer.Answer, Answer.the-variants.Ended, StoredJob.StoredJob}
-use Rattle.model.specs.declared.Ending.the-variants.{Stopped, LettersUsed, NoRoom}
+use Rattle.model.specs.declared.Ending.the-variants.{Stopped, LettersUsed}
 use Rattle.model.specs.declared.Call.the-variants.{Neither, Receives, Sends}
 use Rattle.model.specs.declared.Level.the-variants.{Low, High}
 use Rattle.model.proofs.{Line.bytes-length, Counted.Reached, Counted.reached-first, Counted.turn-reached, Turn.turn-clock}
@@ -24,7 +26,7 @@ use Rattle.run_verdict.specs.Verdict.{CountsFit, countsAs}
 use Rattle.write_line.specs.Placed.{placed}
 use Rattle.write_line.proofs.Places.{placed-nil, placed-append, placed-length}
 use Rattle.run_job.specs.{Held.Held, Held.recordOf, Held.processOf, Held.stateOf, Turn.Turned, Turn.lettersLeft, Turn.foundBefore}
-use Rattle.run_job.proofs.Views.{commandAt, Ready, Few, few, keys-count, program-count, lines-count, letters-count, command-is, letters-go-on, letters-end}
+use Rattle.run_job.proofs.Views.{Ready, few, keys-count, program-count, lines-count, letters-go-on, letters-end}
 use Rattle.run_job.proofs.Turn.{commandOf, process-is, command-here}
 
 bytes-append : (xs ys : List Sent) → bytesOf (xs ++ ys) ≡ bytesOf xs ++ bytesOf ys

@@ -2,15 +2,18 @@
 use Prim.Native.Nat.{ℕ, suc, _+_, _*_, _<_, _≤_}
 use mathlib.Core.Path.{_≡_, refl, sym, ap, ap₂, _∙_}
 use mathlib.Core.Bool.{Bool, true, false, cond}
-use mathlib.Core.List.{List, [], _∷_, _++_, append-nil}
+use mathlib.Core.List.{List, [], _∷_, append-nil}
 use native.Mathlib.{Numerals.add-one, Omega.arith, Decide.decLt}
 use lib.{IntN.ℤ, Dec.ltb, Dec.leb, ListN.length, ListN.getD, ListN.drop, ListN.set, ListN.drop-of-length-le, Seq.drop-cons}
 use borrow.Author.Tests.{lt-ltb, le-ltb, lt-leb, le-leb}
 use Rattle.model.specs.{Step.variable, Step.afterOf, Step.calledOf, Step.effectOf, Step.Stepped, Step.steppedBy, Step.does, Step.callOf, Step.callsBy, Stored.keysIn}
-use Rattle.model.specs.{Stored.entriesIn, Stored.side, Stored.withSide, Stored.held, Stored.absentField, Stored.jobOf, State.Process, State.Processes, State.Incoming, State.Sent}
-use Rattle.model.specs.{State.entry, State.stored, State.step, State.command, State.stopped, State.Role, State.leads, State.follows, State.role, State.refill, State.put, State.each}
-use Rattle.model.specs.{State.takenOf, State.takes, State.sends, State.ticked, State.State, State.process, State.fieldsOf, State.withProcess, Message.source, Message.received}
-use Rattle.model.specs.{Message.receive, Message.columns, Message.lineNow, Message.send, Line.lineLength, Line.lineBytes, Line.bytesOf, Verdict.waits, Verdict.idles, Run.counted, Run.turn}
+use Rattle.model.specs.{Stored.entriesIn, Stored.side, Stored.withSide, Stored.held, Stored.absentField, Stored.jobOf, State.Process, State.Sent}
+use Rattle.model.specs.{State.entry, State.stored, State.step, State.command, State.stopped, State.Role, State.leads, State.follows, State.role, State.refill}
+use Rattle.model.specs.{State.put, State.each}
+use Rattle.model.specs.{State.takenOf, State.takes, State.sends, State.ticked, State.State, State.process, State.fieldsOf, State.withProcess, Message.source}
+use Rattle.model.specs.{Message.received}
+use Rattle.model.specs.{Message.receive, Message.columns, Message.lineNow, Message.send, Line.lineLength, Line.lineBytes, Line.bytesOf, Verdict.waits, Verdict.idles}
+use Rattle.model.specs.{Run.counted, Run.turn}
 use Rattle.model.specs.State as State
 use Rattle.model.specs.declared.{Entry.Entry, Entry.the-variants.Absent, Effect.Effect, Field.Field, Key.Key, Command.Command, Call.Call, Level.Level, Execution.Execution}
 use Rattle.model.specs.declared.{Clock.Clock, MessageLine.MessageLine, StoredJob.StoredJob}
@@ -22,7 +25,8 @@ use Rattle.run_message.specs.Message.{receivedBy}
 use Rattle.run_message.proofs.Laws.{held-set, held-same}
 use Rattle.write_line.specs.{Placed.placed, Line.columnsIn, Line.lineOf}
 use Rattle.write_line.proofs.{Places.placed-nil, Laws.held-at}
-use Rattle.run_job.specs.{Held.Held, Held.recordOf, Held.withRecord, Held.withMessage, Held.withTaken, Held.withBytes, Held.withClock, Held.processOf, Held.stateOf, Turn.Turned}
+use Rattle.run_job.specs.{Held.Held, Held.recordOf, Held.withRecord, Held.withMessage, Held.withTaken, Held.withBytes, Held.withClock, Held.processOf}
+use Rattle.run_job.specs.{Held.stateOf, Turn.Turned}
 use Rattle.run_job.proofs.Views.{commandAt, Ready, keys-count, program-count, lines-count, command-is, operands-at, received-is}
 
 columns-same : (i : ℕ) (ks : List Key) (f g : Level → List Entry) → ((l : Level) → f l ≡ g l) → columns i ks f ≡ columns i ks g

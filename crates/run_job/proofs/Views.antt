@@ -7,10 +7,10 @@ use native.Mathlib.{Numerals.add-one, Omega.arith, Decide.decLt}
 use lib.{Dec.ltb, ListN.length, ListN.getD, ListN.take, ListN.drop, ListN.replicate, ListN.length-map, ListN.drop-of-length-le, ListN.List·getD-map, Seq.drop-cons}
 use lib.{Seq.getD-take, Seq.length-take-le}
 use borrow.Author.Tests.{lt-ltb, le-ltb}
-use Rattle.model.specs.{Command.blank, Job.Job, Limits.mostLetters, Stored.keyCapacity, Stored.commandCapacity, Stored.messageCapacity, Stored.letterCapacity, Stored.keyIn}
+use Rattle.model.specs.{Command.blank, Stored.keyCapacity, Stored.commandCapacity, Stored.messageCapacity, Stored.letterCapacity, Stored.keyIn}
 use Rattle.model.specs.{Stored.keysIn, Stored.entriesIn, Stored.levelOf, Stored.jobOf, Stored.Stored, Accepted.Sound, Accepted.Within, Message.fill, Message.received}
 use Rattle.model.proofs.{Accepted.every-at, Stored.first-count}
-use Rattle.model.specs.declared.{Entry.Entry, Entry.the-variants.Absent, Op.the-variants.Set, Key.Key, Command.Command, Level.Level, MessageLine.MessageLine}
+use Rattle.model.specs.declared.{Entry.Entry, Entry.the-variants.Absent, Op.the-variants.Set, Command.Command, Level.Level, MessageLine.MessageLine}
 use Rattle.model.specs.declared.StoredJob.{StoredJob}
 
 -- the command at a place

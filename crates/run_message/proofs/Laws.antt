@@ -4,7 +4,8 @@ use mathlib.Core.Bool.{Bool, true, false, cond}
 use mathlib.Core.List.{List, [], _∷_, _++_, map}
 use Prim.Native.Nat.{ℕ, zero, suc, _+_, _≤_, _<_}
 use native.Mathlib.{Omega.arith, Nat.le-of-suc-le-suc, Nat.not-suc-le-zero, Numerals.add-one}
-use lib.{ListN.length, ListN.getD, ListN.take, ListN.drop, ListN.set, ListN.replicate, ListN.length-map, ListN.length-replicate, ListN.getD-replicate, Seq.take-suc, Seq.take-suc-set, Seq.take-all, Seq.map-set-same}
+use lib.{ListN.length, ListN.getD, ListN.take, ListN.drop, ListN.set, ListN.replicate, ListN.length-map, ListN.length-replicate, ListN.getD-replicate, Seq.take-suc}
+use lib.{Seq.take-suc-set, Seq.take-all, Seq.map-set-same}
 use Rattle.model.specs.{Stored.keyCapacity, Stored.firstOf, Stored.keyIn, Stored.entryIn, Stored.keysIn, Stored.side, Stored.held, Stored.openSlot, Stored.absentSlot}
 use Rattle.model.specs.{Stored.absentField, Message.shown, Message.fill}
 use Rattle.run_message.specs.Message.{fieldOf, receivedBy, ReceivedTo, Cleared}

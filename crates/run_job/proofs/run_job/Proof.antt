@@ -1,27 +1,32 @@
 -- The loop keeps what `Inv` of proofs/Loop.antt says; every turn cites the law of its kind, and each ending the test that finds it.
 use Prim.Native.Nat.{ℕ, _+_, _-_, _*_, _<_, _≤_}
-use mathlib.Core.Path.{_≡_, refl, sym, ap, ap₂, _∙_}
+use mathlib.Core.Path.{_≡_, refl, sym, ap, _∙_}
 use mathlib.Core.Bool.{Bool, false}
 use mathlib.Core.List.{List, []}
 use native.Mathlib.{Omega.arith, Nat.add-zero}
 use borrow.Author.{Needs.needs, Needs.sfits-of, Tests.lt-ltb, Tests.le-ltb}
-use lib.{IntN.ℤ, Dec.ltb, ListN.length, ListN.getD, ListN.drop, ListN.length-set}
-use mir.{Syntax.w32, Val.toZ, Val.ofZ, Val.SFits, ValLaws.toZ-ofZ}
-use Rattle.model.specs.{Step.begun, Step.variable, Step.afterOf, Step.effectOf, Step.callOf, Step.callsBy, Limits.variables, Stored.keyCapacity, Stored.messageCapacity, Stored.keysIn, Stored.entriesIn, Stored.levelOf, Line.cells, Accepted.Within, State.ticked, Verdict.short, Verdict.waits, Verdict.verdictBy, Run.runJob, Answer.left, Answer.leftBy}
+use lib.{Dec.ltb, ListN.length, ListN.getD, ListN.drop, ListN.length-set}
+use mir.{Syntax.w32, Val.toZ, Val.ofZ, ValLaws.toZ-ofZ}
+use Rattle.model.specs.{Step.variable, Step.callOf, Step.callsBy, Limits.variables, Stored.keyCapacity, Stored.messageCapacity, Stored.keysIn, Stored.entriesIn}
+use Rattle.model.specs.{Stored.levelOf, Line.cells, Accepted.Within, State.ticked, Verdict.short, Verdict.waits, Verdict.verdictBy, Run.runJob, Answer.left}
+use Rattle.model.specs.{Answer.leftBy}
 use Rattle.model.specs.Stored as Stored
-use Rattle.model.specs.declared.{Command.Command, Call.Call, Level.Level, Execution.Execution, Clock.Clock, MessageLine.MessageLine, StoredJob.StoredJob, Answer.Answer, Answer.the-variants.Ended}
+use Rattle.model.specs.declared.{Call.Call, Level.Level, Execution.Execution, Clock.Clock, MessageLine.MessageLine, StoredJob.StoredJob, Answer.Answer}
+use Rattle.model.specs.declared.{Answer.the-variants.Ended}
 use Rattle.model.specs.declared.Ending.the-variants.{Stopped, NoRoom}
-use Rattle.model.specs.declared.Call.the-variants.{Neither, Receives, Sends}
+use Rattle.model.specs.declared.Call.the-variants.{Sends}
 use Rattle.model.specs.declared.Level.the-variants.{Low, High}
 use Rattle.run_step.proofs.Laws.{changedBy}
-use Rattle.run_message.specs.Message.{receivedBy, ReceivedTo}
+use Rattle.run_message.specs.Message.{ReceivedTo}
 use Rattle.run_message.proofs.Laws.{received-more, received-all}
 use Rattle.write_line.specs.{Placed.placed, Line.columnsIn}
 use Rattle.write_line.proofs.Laws.{columns-at, columns-count, cellAt, cells-again, cells-end, line-written}
 use Rattle.run_verdict.specs.Verdict.{countsAs}
-use Rattle.run_job.specs.{Held.Held, Held.withTaken, Held.withMessage, Held.withBytes, Held.withClock, Turn.Turned}
-use Rattle.run_job.proofs.{Views.commandAt, Views.Ready, Views.few, Views.below-or-first, Views.operands-at, Loop.Kept, Loop.Inv, Loop.begins, Loop.Small, Loop.small, Loop.same-length, Loop.counts-fit, Loop.ends}
-use Rattle.run_job.proofs.{Loop.found-used, Loop.found-stopped, Loop.found-by, Loop.again, Loop.short-neither, Loop.short-receives, Loop.short-sends, Turn.commanded, Turn.calledBy, Turn.receive-turn, Turn.send-turn, Turn.command-turn}
+use Rattle.run_job.specs.{Held.Held, Held.withTaken, Held.withMessage, Held.withBytes, Turn.Turned}
+use Rattle.run_job.proofs.{Views.commandAt, Views.Ready, Views.few, Views.below-or-first, Views.operands-at, Loop.Kept, Loop.Inv, Loop.begins, Loop.Small}
+use Rattle.run_job.proofs.{Loop.small, Loop.same-length, Loop.counts-fit, Loop.ends}
+use Rattle.run_job.proofs.{Loop.found-used, Loop.found-stopped, Loop.found-by, Loop.again, Loop.short-neither, Loop.short-receives, Loop.short-sends}
+use Rattle.run_job.proofs.{Turn.commanded, Turn.calledBy, Turn.receive-turn, Turn.send-turn, Turn.command-turn}
 use Rattle.run_job.proofs.{Turn.idle-at-end, Turn.idle-waiting}
 use Rattle.run_job.proofs.run_job.Statement.{statement}
 use Rattle.run_job.proofs.run_job.Tie as tie
@@ -74,7 +79,11 @@ loop-holds c =
     let high = cleared .before in
     let low = high .before in
     let start = low .before .before in
-    record { kept = begins (start .pre) _ _ _ _ _ (low .begun .ensures) (high .begun2 .ensures) (cleared .cleared .ensures) (c .started .ensures); full = ap length (cleared .cleared .ensures); live = omega (arith, ap (λ (x : Execution). x .place) (low .begun .ensures), few (start .pre) .some) }
+    record {
+      kept = begins (start .pre) _ _ _ _ _ (low .begun .ensures) (high .begun2 .ensures) (cleared .cleared .ensures) (c .started .ensures);
+      full = ap length (cleared .cleared .ensures);
+      live = omega (arith, ap (λ (x : Execution). x .place) (low .begun .ensures), few (start .pre) .some);
+    }
 
 -- ---- What the code counts stays small
 
@@ -121,7 +130,9 @@ lowLoop c = loopOf (lowLetter c)
 isLow : (c : tie.After-enum-told Inv-loop2 μ-loop2 Inv-loop3 μ-loop3 Inv-loop μ-loop) → levelOf (getD (jobOf (lowLoop c) .turns) (lowLoop c .loop .clock .positions) 0) ≡ Low
 isLow c = level-is (lowLetter c) ∙ c .enum-told .given .1
 
-operands-low : (c : tie.After-enum-told Inv-loop2 μ-loop2 Inv-loop3 μ-loop3 Inv-loop μ-loop) → let l = lowLoop c in Within (jobOf l .keys) (jobOf l .«command_count») (commandAt (jobOf l .commands) (l .loop .low .place))
+operands-low : (c : tie.After-enum-told Inv-loop2 μ-loop2 Inv-loop3 μ-loop3 Inv-loop μ-loop) →
+    let l = lowLoop c in
+    Within (jobOf l .keys) (jobOf l .«command_count») (commandAt (jobOf l .commands) (l .loop .low .place))
 operands-low c = let l = lowLoop c in operands-at (ready l) (l .loop .low .place) (l .loop .inv .live)
 
 -- the low execution's turn, and what it leaves; whether it stops is tested last
@@ -135,7 +146,8 @@ module _ (c : tie.After-enum-told Inv-loop2 μ-loop2 Inv-loop3 μ-loop3 Inv-loop
   goes-on : {k : Call} → callOf (commandAt (jobOf l .commands) (l .loop .low .place) .op) ≡ k → short k (length (l .loop .out) - l .loop .bytes) (10 + 12 * jobOf l .keys) ≡ false
       → {h : Held} {out : List ℕ} → Turned (jobOf l) Low (l .loop .inv .kept .sent) (heldAt l) h (l .loop .out) out → Low-kept h out
   goes-on call roomy t =
-      again (ready l) (l .loop .inv .kept) (l .loop .inv .live) (more (lowLetter c)) Low (isLow c) (ap (λ (k : Call). short k (length (l .loop .out) - l .loop .bytes) (10 + 12 * jobOf l .keys)) call ∙ roomy) t
+      again (ready l) (l .loop .inv .kept) (l .loop .inv .live) (more (lowLetter c)) Low (isLow c)
+      (ap (λ (k : Call). short k (length (l .loop .out) - l .loop .bytes) (10 + 12 * jobOf l .keys)) call ∙ roomy) t
 
   stops : {h : Held} {out : List ℕ} → Low-kept h out → jobOf l .«command_count» ≤ h .low .place → (a : Answer) → a ≡ Ended Stopped (countsAs (h .clock) (h .bytes) (h .taken))
       → left a out ≡ leftBy (callerOf l .args .out .now) (runJob (Stored.jobOf (jobOf l)) (length (callerOf l .args .out .now)))
@@ -170,7 +182,8 @@ loop2-again c =
     let j = jobOf low in (
       omega arith,
       simp length-set (i .inv .1),
-      received-more (j .keys) (j .secrets) (lineOf at .slots) (ready low .1 .keys) (lineLeft at) (i .message) (i .k) (c .received .result) (omega arith) (omega (arith, few (ready low) .keys)) (c .received .ensures) (i .inv .2),
+      received-more (j .keys) (j .secrets) (lineOf at .slots) (ready low .1 .keys) (lineLeft at) (i .message) (i .k)
+          (c .received .result) (omega arith) (omega (arith, few (ready low) .keys)) (c .received .ensures) (i .inv .2),
     )
 
 -- the fields are all filled
@@ -397,7 +410,9 @@ loop-again-5 c =
 abbrev movesOf : tie.After-index6 Inv-loop2 μ-loop2 Inv-loop3 μ-loop3 Inv-loop μ-loop → tie.Else7 Inv-loop2 μ-loop2 Inv-loop3 μ-loop3 Inv-loop μ-loop
 movesOf c = c .before .before .before .before
 
-operands-high : (c : tie.Else7 Inv-loop2 μ-loop2 Inv-loop3 μ-loop3 Inv-loop μ-loop) → let l = highLoop (highOf (goingOf (c .before))) in Within (jobOf l .keys) (jobOf l .«command_count») (commandAt (jobOf l .commands) (l .loop .high .place))
+operands-high : (c : tie.Else7 Inv-loop2 μ-loop2 Inv-loop3 μ-loop3 Inv-loop μ-loop) →
+    let l = highLoop (highOf (goingOf (c .before))) in
+    Within (jobOf l .keys) (jobOf l .«command_count») (commandAt (jobOf l .commands) (l .loop .high .place))
 operands-high c = let g = goingOf (c .before) in let l = highLoop (highOf g) in operands-at (ready l) (l .loop .high .place) (high-live g)
 
 key-high : (c : tie.After-index4 Inv-loop2 μ-loop2 Inv-loop3 μ-loop3 Inv-loop μ-loop) → c .index4 .result < keyCapacity
@@ -415,7 +430,8 @@ effectHigh c = c .before .before .before .before .before .before
 abbrev keyHigh : tie.After-with2 Inv-loop2 μ-loop2 Inv-loop3 μ-loop3 Inv-loop μ-loop → tie.After-index4 Inv-loop2 μ-loop2 Inv-loop3 μ-loop3 Inv-loop μ-loop
 keyHigh c = effectHigh (c .before .before .before) .before .before .before
 
-value-high : (c : tie.After-struct-told2 Inv-loop2 μ-loop2 Inv-loop3 μ-loop3 Inv-loop μ-loop) → toZ w32 (ofZ w32 (c .before .before .effect-at2 .result .value)) ≡ c .before .before .effect-at2 .result .value
+value-high : (c : tie.After-struct-told2 Inv-loop2 μ-loop2 Inv-loop3 μ-loop3 Inv-loop μ-loop) →
+    toZ w32 (ofZ w32 (c .before .before .effect-at2 .result .value)) ≡ c .before .before .effect-at2 .result .value
 value-high c = toZ-ofZ w32 (c .before .before .effect-at2 .result .value) (search needs)
 
 held-high : (c : tie.After-holds2 Inv-loop2 μ-loop2 Inv-loop3 μ-loop3 Inv-loop μ-loop) → toZ w32 (ofZ w32 (c .holds2 .result)) ≡ c .holds2 .result

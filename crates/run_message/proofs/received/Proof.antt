@@ -1,5 +1,4 @@
 -- The two cases: one more line, or none.
-use mathlib.Core.Path.{_∙_}
 use borrow.Author.Needs.{needs}
 use Rattle.run_message.proofs.received.Statement.{statement}
 use Rattle.run_message.proofs.received.Tie as tie

@@ -1,7 +1,6 @@
 -- In each arm the place is the constant that the arm tests.
 use mathlib.Core.Path.{_≡_, ap, sym, _∙_}
 use Prim.Native.Nat.{ℕ}
-use lib.{IntN.pos, ListN.getD}
 use mir.{Syntax.w32, ValLaws.toZ-ofZ}
 use borrow.Author.Needs.{needs, sfits-of}
 use Rattle.model.specs.Step.{variable}

@@ -1,5 +1,5 @@
 -- One case for each level.
-use mathlib.Core.Path.{_≡_, sym, ap}
+use mathlib.Core.Path.{sym, ap}
 use borrow.Author.Needs.{needs}
 use Rattle.model.specs.Stored.{withSide}
 use Rattle.model.specs.Data.{Level}
