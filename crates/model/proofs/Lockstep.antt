@@ -21,9 +21,8 @@ use Rattle.model.specs.Data.{Entry, Absent, Key, Open, Secret, Command, 
 -- an execution other than o's is shown the same of two entries that are equal unless o owns their key
 shown-alike : (o : Level) → Low ≢ o → (l : Level) → l ≢ o → (k : Key) {e f : Entry} → (source k ≢ o → e ≡ f) → shown l k e ≡ shown l k f
 unfolding shown source
-shown-alike o hid Low lo Open h = h hid
+shown-alike o hid l lo Open h = h hid
 shown-alike o hid Low lo (Secret d) h = refl
-shown-alike o hid High lo Open h = h hid
 shown-alike o hid High lo (Secret d) h = h lo
 
 -- ---- The relation

@@ -10,9 +10,8 @@ use Rattle.model.specs.Data.{Entry, Absent, Number, Key, Open, Secret, L
 -- "at an open key both fields are the entry or absent. At a secret key the low field is the dummy, whether or not the line has that key, and the
 -- high field is the entry or absent."
 unfoldable pub shown : Level → Key → Entry → Entry
-shown Low Open e = e
+shown l Open e = e
 shown Low (Secret d) e = Number d
-shown High Open e = e
 shown High (Secret d) e = e
 
 -- the fields of a level as a message line fills them, key by key

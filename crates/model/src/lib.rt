@@ -3,10 +3,9 @@
 // The code takes every limit and every array's length from the constants here. The definitions have the same numbers in specs/Limits.antt and
 // specs/Stored.antt; where the two differ, a contract is not met.
 ghost use mathlib.Core.Path.{_≡_};
-ghost use Prim.Native.Nat.{_<_, _≤_};
+ghost use Prim.Native.Nat.{_<_};
 ghost use lib.ListN.{replicate};
-ghost use Rattle.model.specs.{Limits.variables, Command.blank, Step.begun as Execution·begun, Step.variable, Step.afterOf, Step.calledOf, Stored.keyCapacity};
-ghost use Rattle.model.specs.{State.started as Clock·started, State.ticked as Clock·ticked, State.role, State.stepsBy, Stored.side as Field·side, Stored.withSide};
+ghost use Rattle.model.specs.{Limits.variables, Command.blank, Step.begun as Execution·begun, Step.afterOf, Step.calledOf, Stored.keyCapacity};
 ghost use Rattle.model.specs.{Stored.commandCapacity, Stored.messageCapacity, Stored.openSlot, Stored.absentSlot, Stored.blankLine, Stored.nothingStored};
 ghost use Rattle.model.specs.{Form.formOne};
 ghost use Rattle.model.specs.declared.Op.the-variants.{Stop};
@@ -83,32 +82,6 @@ pub enum Entry {
 pub struct Field {
     pub low: Entry,
     pub high: Entry,
-}
-
-impl Field {
-    // The field of a level.
-    pub fn side(self, level: Level) -> Entry
-        ensures { λ r. ⌜ r ≡ Field·side level self ⌝ }
-    {
-        let low = self.low;
-        let high = self.high;
-        match level {
-            Level::Low => low,
-            Level::High => high,
-        }
-    }
-
-    // An execution changes the field of its own level, and no other.
-    pub fn with(self, level: Level, e: Entry) -> Field
-        ensures { λ r. ⌜ r ≡ withSide level e self ⌝ }
-    {
-        let low = self.low;
-        let high = self.high;
-        match level {
-            Level::Low => Field { low: e, high },
-            Level::High => Field { low, high: e },
-        }
-    }
 }
 
 // A key is open, or secret with its dummy.
@@ -199,7 +172,7 @@ impl Execution {
 
     // The next record: the variable v has the value, the execution goes on at the place, and has made so many calls.
     //
-    // The places of the array are constants here and in `holds`, so that a compiler that sees both stores the one change and copies no record.
+    // The places of the array are constants here and in `run_step::holds`, so that a compiler that sees both stores the one change and copies no record.
     pub fn after(mut self, v: usize, value: i32, place: usize, calls: usize) -> Execution
         requires { ⌜ v < variables ⌝ }
         ensures { λ r. ⌜ r ≡ afterOf self v value place calls ⌝ }
@@ -218,23 +191,6 @@ impl Execution {
         self.calls = calls;
         self
     }
-
-    // What the variable v holds.
-    pub fn holds(self, v: usize) -> i32
-        requires { ⌜ v < variables ⌝ }
-        ensures { λ r. ⌜ r ≡ variable self v ⌝ }
-    {
-        match v {
-            0 => self.vars[0],
-            1 => self.vars[1],
-            2 => self.vars[2],
-            3 => self.vars[3],
-            4 => self.vars[4],
-            5 => self.vars[5],
-            6 => self.vars[6],
-            _ => self.vars[7],
-        }
-    }
 }
 
 // What a command does: the next place, the value for its variable, and the entry for its key.
@@ -244,42 +200,10 @@ pub struct Effect {
     pub entry: Entry,
 }
 
-// The low steps of a level's turn: the low level leads.
-fn low_steps(level: Level) -> usize
-    ensures { λ r. ⌜ (r ≡ stepsBy (role level)) × (r ≤ 1) ⌝ }
-{
-    match level {
-        Level::Low => 1,
-        Level::High => 0,
-    }
-}
-
 // The clock of a run: the positions used, and the low steps.
 pub struct Clock {
     pub positions: usize,
     pub steps: usize,
-}
-
-impl Clock {
-    pub fn started() -> Clock
-        ensures { λ r. ⌜ r ≡ Clock·started ⌝ }
-    {
-        Clock {
-            positions: 0,
-            steps: 0,
-        }
-    }
-
-    // After a turn of a level: the low steps are those of the level that leads.
-    pub fn ticked(self, level: Level) -> Clock
-        requires { ⌜ (self .positions < 4294967296) × (self .steps < 4294967296) ⌝ }
-        ensures { λ r. ⌜ r ≡ Clock·ticked level self ⌝ }
-    {
-        Clock {
-            positions: self.positions + 1,
-            steps: self.steps + low_steps(level),
-        }
-    }
 }
 
 // How a run ends from its state.

@@ -1,3 +1,4 @@
 pub mod Views
 pub mod Turn
+pub mod Keys
 pub mod Loop

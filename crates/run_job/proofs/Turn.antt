@@ -93,13 +93,17 @@ module _ {j : StoredJob} (ok : Ready j) (sent : List Sent) (h : Held) where
     abbrev pub commandOf : Command
     commandOf = commandAt (j .commands) (x .place)
 
-    -- ---- An execution that is at the end idles
+    -- ---- An idle turn
 
-    pub idle-at-end : role l ≡ follows → j .«command_count» ≤ x .place → (c : Clock) → c ≡ ticked l (h .clock) → (m : List ℕ) → Turned j l sent h (withClock c h) m m
+    pub idle-turn : role l ≡ follows → idlesAt ks cs here l ≡ true → (c : Clock) → c ≡ ticked l (h .clock) → (m : List ℕ) → Turned j l sent h (withClock c h) m m
+    idle-turn f e c ec m = still l _ m (turn-idle ks cs here l f e ∙ clock-only l c ec)
+
+    -- it idles at the end
+    pub ends-idle : j .«command_count» ≤ x .place → idlesAt ks cs here l ≡ true
     unfolding idles stopped
-    idle-at-end f end c ec m =
-        let at-end : stopped cs (process l here) ≡ true = ap (λ (p : Process). leb (length cs) (p .execution .place)) (process-is l) ∙ le-leb (length cs) (x .place) (omega (arith, program-count ok)) in
-        still l _ m (turn-idle ks cs here l f (ap (λ (b : Bool). idles b (callAt ks cs here l) (process Low here .execution .calls) (process l here .execution .calls)) at-end) ∙ clock-only l c ec)
+    ends-idle end =
+        ap (λ (b : Bool). idles b (callAt ks cs here l) (process Low here .execution .calls) (process l here .execution .calls))
+        (ap (λ (p : Process). leb (length cs) (p .execution .place)) (process-is l) ∙ le-leb (length cs) (x .place) (omega (arith, program-count ok)))
 
     module _ (live : x .place < j .«command_count») where
       pub command-here : command cs (process l here) ≡ commandOf
@@ -109,17 +113,13 @@ module _ {j : StoredJob} (ok : Ready j) (sent : List Sent) (h : Held) where
       call-here : callAt ks cs here l ≡ callOf (commandOf .op)
       call-here = ap (λ (c : Command). callOf (c .op)) command-here
 
-      -- whether it waits is all that idling asks
-      waits-here : idlesAt ks cs here l ≡ waits (callOf (commandOf .op)) (h .low .calls) (x .calls)
+      -- elsewhere, whether it waits is all that idling asks
+      pub waits-here : idlesAt ks cs here l ≡ waits (callOf (commandOf .op)) (h .low .calls) (x .calls)
       unfolding idles stopped stateOf State.at
       waits-here =
           let going : stopped cs (process l here) ≡ false = ap (λ (p : Process). leb (length cs) (p .execution .place)) (process-is l) ∙ lt-leb (length cs) (x .place) (omega (arith, program-count ok)) in
           ap₂ (λ (b : Bool) (p : Process). idles b (callAt ks cs here l) (h .low .calls) (p .execution .calls)) going (process-is l)
           ∙ ap (λ (k : Call). waits k (h .low .calls) (x .calls)) call-here
-
-      pub idle-waiting : role l ≡ follows → waits (callOf (commandOf .op)) (h .low .calls) (x .calls) ≡ true → (c : Clock) → c ≡ ticked l (h .clock) → (m : List ℕ)
-          → Turned j l sent h (withClock c h) m m
-      idle-waiting f w c ec m = still l _ m (turn-idle ks cs here l f (waits-here ∙ w) ∙ clock-only l c ec)
 
       -- ---- A command
 

@@ -22,8 +22,8 @@ lettersLeft j h = drop (h .clock .positions) (jobOf j .turns)
 abbrev pub foundBefore : StoredJob → ℕ → List Sent → Held → Verdict
 foundBefore j room sent h = verdict (jobOf j .keys) (jobOf j .commands) room (lettersLeft j h) (stateOf j sent h)
 
--- What a function promises that takes one turn of a run which its host holds: an ending leaves all as it was, else the turn is that of the next
--- letter's level, whatever was sent before. Every turn of `run_job` keeps this promise; where no letter is left, an ending is found.
+-- What a function would promise that takes one turn of a run which its host holds: where an ending is found all is left as it was, else the turn is that
+-- of the next letter's level, whatever was sent before. (Where no letter is left, an ending is found.)
 abbrev pub nextTurn : StoredJob → List Level → List Sent → Held → Held → List ℕ → List ℕ → Type 0
 nextTurn j [] sent h h′ m m′ = ⊥
 nextTurn j (l ∷ ls) sent h h′ m m′ = Turned j l sent h h′ m m′

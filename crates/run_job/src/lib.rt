@@ -1,21 +1,25 @@
 // The run: two executions over one message, turn by turn, to an ending.
 use model::Answer;
 use model::Call;
-use model::Clock;
 use model::Ending;
 use model::Execution;
 use model::Level;
 use model::StoredJob;
 use run_message::cleared;
 use run_message::received;
+use run_message::side;
+use run_message::with;
 use run_step::call_of;
 use run_step::calls_by;
 use run_step::effect_at;
+use run_step::holds;
 use run_step::index;
 use run_verdict::ended;
 use run_verdict::level_of;
 use run_verdict::readable;
+use run_verdict::started;
 use run_verdict::taken_after;
+use run_verdict::ticked;
 use run_verdict::waits;
 use write_line::heading;
 use write_line::key_cell;
@@ -38,7 +42,7 @@ pub fn run_job(job: StoredJob, out: &mut [u8]) -> Answer
     let mut low = Execution::begun();
     let mut high = Execution::begun();
     let mut message = cleared();
-    let mut clock = Clock::started();
+    let mut clock = started();
     let mut bytes: usize = 0;
     let mut taken: usize = 0;
     loop {
@@ -67,7 +71,7 @@ pub fn run_job(job: StoredJob, out: &mut [u8]) -> Answer
                         let next = low.called();
                         low.place = next.place;
                         low.calls = next.calls;
-                        clock = clock.ticked(Level::Low);
+                        clock = ticked(clock, Level::Low);
                         if count <= low.place {
                             return ended(Ending::Stopped, clock, bytes, taken);
                         }
@@ -89,7 +93,7 @@ pub fn run_job(job: StoredJob, out: &mut [u8]) -> Answer
                         let next = low.called();
                         low.place = next.place;
                         low.calls = next.calls;
-                        clock = clock.ticked(Level::Low);
+                        clock = ticked(clock, Level::Low);
                         if count <= low.place {
                             return ended(Ending::Stopped, clock, bytes, taken);
                         }
@@ -99,15 +103,15 @@ pub fn run_job(job: StoredJob, out: &mut [u8]) -> Answer
                         let f = message[k];
                         let v = index(c.v);
                         let w = index(c.w);
-                        let e = f.side(Level::Low);
+                        let e = side(f, Level::Low);
                         let r = effect_at(c, p, low.vars[v], low.vars[w], e, count);
                         let next = low.after(v, r.value, r.place, low.calls);
-                        low.vars[v] = next.holds(v);
+                        low.vars[v] = holds(next, v);
                         low.place = next.place;
                         low.calls = next.calls;
                         let entry = r.entry;
-                        message[k] = f.with(Level::Low, entry);
-                        clock = clock.ticked(Level::Low);
+                        message[k] = with(f, Level::Low, entry);
+                        clock = ticked(clock, Level::Low);
                         if count <= low.place {
                             return ended(Ending::Stopped, clock, bytes, taken);
                         }
@@ -117,27 +121,27 @@ pub fn run_job(job: StoredJob, out: &mut [u8]) -> Answer
             Level::High => {
                 let p = high.place;
                 if count <= p {
-                    clock = clock.ticked(Level::High);
+                    clock = ticked(clock, Level::High);
                 } else {
                     let c = job.commands[p];
                     let op = c.op;
                     let call = call_of(op);
                     if waits(call, low.calls, high.calls) {
-                        clock = clock.ticked(Level::High);
+                        clock = ticked(clock, Level::High);
                     } else {
                         let k = index(c.k);
                         let f = message[k];
                         let v = index(c.v);
                         let w = index(c.w);
-                        let e = f.side(Level::High);
+                        let e = side(f, Level::High);
                         let r = effect_at(c, p, high.vars[v], high.vars[w], e, count);
                         let next = high.after(v, r.value, r.place, high.calls + calls_by(call));
-                        high.vars[v] = next.holds(v);
+                        high.vars[v] = holds(next, v);
                         high.place = next.place;
                         high.calls = next.calls;
                         let entry = r.entry;
-                        message[k] = f.with(Level::High, entry);
-                        clock = clock.ticked(Level::High);
+                        message[k] = with(f, Level::High, entry);
+                        clock = ticked(clock, Level::High);
                     }
                 }
             }

@@ -1,13 +1,14 @@
-// The fields of the message, as a receive fills them.
+// The fields of the message: as a receive fills them, and as a command of one level reads and changes them.
 use model::Entry;
 use model::EntrySlot;
 use model::Field;
 use model::KEY_CAPACITY;
 use model::Key;
 use model::KeySlot;
+use model::Level;
 ghost use mathlib.Core.Path.{_≡_};
 ghost use mathlib.Core.Bool.{cond};
-ghost use Rattle.model.specs.Stored.{absentField};
+ghost use Rattle.model.specs.Stored.{absentField, side as Field·side, withSide};
 ghost use Rattle.run_message.specs.Message.{fieldOf, Cleared};
 
 // A key's fields where the line has the entry e at it: a secret key's low field is the dummy, whether or not e is present.
@@ -50,4 +51,28 @@ pub fn cleared() -> [Field; KEY_CAPACITY]
         high: Entry::Absent,
     };
     [none; KEY_CAPACITY]
+}
+
+// The field of a level.
+pub fn side(f: Field, level: Level) -> Entry
+    ensures { λ r. ⌜ r ≡ Field·side level f ⌝ }
+{
+    let low = f.low;
+    let high = f.high;
+    match level {
+        Level::Low => low,
+        Level::High => high,
+    }
+}
+
+// An execution changes the field of its own level, and no other.
+pub fn with(f: Field, level: Level, e: Entry) -> Field
+    ensures { λ r. ⌜ r ≡ withSide level e f ⌝ }
+{
+    let low = f.low;
+    let high = f.high;
+    match level {
+        Level::Low => Field { low: e, high },
+        Level::High => Field { low, high: e },
+    }
 }

@@ -3,6 +3,7 @@ use model::Call;
 use model::Command;
 use model::Effect;
 use model::Entry;
+use model::Execution;
 use model::Op;
 use run_arith::add;
 use run_arith::div;
@@ -12,7 +13,7 @@ ghost use mathlib.Core.Path.{_≡_};
 ghost use mathlib.Core.Bool.{cond};
 ghost use Prim.Native.Nat.{_<_, _≤_};
 ghost use lib.{IntN.pos, Signed.ltZ};
-ghost use Rattle.model.specs.{Arith.isZero, Step.numberOf, Step.presence, Step.made as Effect·made, Step.effectOf, Step.callOf, Step.callsBy};
+ghost use Rattle.model.specs.{Limits.variables, Arith.isZero, Step.variable, Step.numberOf, Step.presence, Step.made as Effect·made, Step.effectOf, Step.callOf, Step.callsBy};
 
 // A variable's or a key's number, as an index.
 pub fn index(x: u8) -> usize
@@ -123,5 +124,22 @@ pub fn calls_by(call: Call) -> usize
         Call::Neither => 0,
         Call::Receives => 1,
         Call::Sends => 1,
+    }
+}
+
+// What the variable v of a record holds. The places are constants, as in `Execution::after`.
+pub fn holds(x: Execution, v: usize) -> i32
+    requires { ⌜ v < variables ⌝ }
+    ensures { λ r. ⌜ r ≡ variable x v ⌝ }
+{
+    match v {
+        0 => x.vars[0],
+        1 => x.vars[1],
+        2 => x.vars[2],
+        3 => x.vars[3],
+        4 => x.vars[4],
+        5 => x.vars[5],
+        6 => x.vars[6],
+        _ => x.vars[7],
     }
 }

@@ -1,4 +1,4 @@
-// The parts of one turn that are no command: whose turn it is, whether a high execution waits, what a receive takes, the answer of a run that ends.
+// The parts of one turn that are no command: whose turn it is, whether a high execution waits, what a receive takes, the clock, the answer of a run that ends.
 use model::Answer;
 use model::Call;
 use model::Clock;
@@ -7,9 +7,9 @@ use model::Ending;
 use model::Level;
 ghost use mathlib.Core.Path.{_≡_};
 ghost use mathlib.Core.Bool.{cond};
-ghost use Prim.Native.Nat.{_+_, _<_};
+ghost use Prim.Native.Nat.{_+_, _<_, _≤_};
 ghost use lib.Dec.{ltb};
-ghost use Rattle.model.specs.{Verdict.waits as Verdict·waits, Stored.levelOf};
+ghost use Rattle.model.specs.{Verdict.waits as Verdict·waits, Stored.levelOf, State.role, State.stepsBy, State.started as Clock·started, State.ticked as Clock·ticked};
 ghost use Rattle.model.specs.declared.Answer.the-variants.{Ended};
 ghost use Rattle.run_verdict.specs.Verdict.{CountsFit, countsAs};
 
@@ -46,6 +46,36 @@ pub fn waits(call: Call, first: usize, own: usize) -> bool
         Call::Neither => false,
         Call::Receives => first <= own,
         Call::Sends => first <= own,
+    }
+}
+
+// The low steps of a level's turn: the low level leads.
+fn low_steps(level: Level) -> usize
+    ensures { λ r. ⌜ (r ≡ stepsBy (role level)) × (r ≤ 1) ⌝ }
+{
+    match level {
+        Level::Low => 1,
+        Level::High => 0,
+    }
+}
+
+// The clock at first, and after a turn of a level.
+pub fn started() -> Clock
+    ensures { λ r. ⌜ r ≡ Clock·started ⌝ }
+{
+    Clock {
+        positions: 0,
+        steps: 0,
+    }
+}
+
+pub fn ticked(clock: Clock, level: Level) -> Clock
+    requires { ⌜ (clock .positions < 4294967296) × (clock .steps < 4294967296) ⌝ }
+    ensures { λ r. ⌜ r ≡ Clock·ticked level clock ⌝ }
+{
+    Clock {
+        positions: clock.positions + 1,
+        steps: clock.steps + low_steps(level),
     }
 }
 

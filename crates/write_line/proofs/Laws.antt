@@ -67,17 +67,18 @@ module _ (at : ℕ) (es : List Entry) where
   cells-at k h = rw (add-one, drop-cons es k Absent h)
 
   -- one cell more
-  pub cells-again : (out o : List ℕ) (k : ℕ) (e : Entry) → k < length es → cellAt k + 12 ≤ length out → e ≡ getD es k Absent → o ≡ placed out (cellAt k) (space ∷ cell e)
-      → placed o (cellAt (k + 1)) (cells (drop (k + 1) es)) ≡ placed out (cellAt k) (cells (drop k es))
-  cells-again out o k e h room ee eo =
+  pub cells-again : {all : List ℕ} (out o : List ℕ) (k : ℕ) (e : Entry) → k < length es → cellAt k + 12 ≤ length out → e ≡ getD es k Absent → o ≡ placed out (cellAt k) (space ∷ cell e)
+      → placed out (cellAt k) (cells (drop k es)) ≡ all → placed o (cellAt (k + 1)) (cells (drop (k + 1) es)) ≡ all
+  cells-again out o k e h room ee eo before =
       let rest = cells (drop (k + 1) es) in
       let n : cellAt (k + 1) ≡ cellAt k + length (space ∷ cell e) = omega (arith, ap suc (cell-length e)) in
       ap₂ (λ (l : List ℕ) (q : ℕ). placed l q rest) eo n
       ∙ placed-append out (cellAt k) (space ∷ cell e) (omega (arith, ap suc (cell-length e))) rest
       ∙ ap (λ (z : Entry). placed out (cellAt k) ((space ∷ cell z) ++ rest)) ee
       ∙ ap (placed out (cellAt k)) (sym (cells-at k h))
+      ∙ before
 
-  pub cells-end : (out : List ℕ) (k : ℕ) → length es ≤ k → placed out (cellAt k) (cells (drop k es)) ≡ out
+  cells-end : (out : List ℕ) (k : ℕ) → length es ≤ k → placed out (cellAt k) (cells (drop k es)) ≡ out
   unfolding cells
   cells-end out k h = ap (λ (l : List Entry). placed out (cellAt k) (cells l)) (drop-of-length-le es h) ∙ placed-nil out (cellAt k)
 
@@ -98,7 +99,7 @@ five-placed out at a b c d e s h =
     ∙ placed-cons out at a (b ∷ c ∷ d ∷ e ∷ s) (omega arith)
 
 -- the heading, the cells and the line feed make the line
-pub line-written : (out h o : List ℕ) (at n keys : ℕ) (es : List Entry) → length es ≡ keys → at + (10 + 12 * keys) ≤ length out
+line-written : (out h o : List ℕ) (at n keys : ℕ) (es : List Entry) → length es ≡ keys → at + (10 + 12 * keys) ≤ length out
     → h ≡ placed out at (heading n) → o ≡ placed h (cellAt at es 0) (cells es) → set o (cellAt at es keys) lineFeed ≡ placed out at (lineBytes (lineOf n es))
 unfolding lineBytes
 line-written out h o at n keys es e room eh eo =
@@ -116,3 +117,9 @@ line-written out h o at n keys es e room eh eo =
     ∙ ap₂ (λ (l : List ℕ) (i : ℕ). placed l i (lineFeed ∷ [])) both q
     ∙ placed-append out at (hs ++ cs) (omega arith) (lineFeed ∷ [])
     ∙ ap (placed out at) (append-assoc hs cs (lineFeed ∷ []))
+
+-- the line, where no cell is left to write
+pub line-done : (out h o f : List ℕ) (at n keys : ℕ) (es : List Entry) (k : ℕ) → length es ≡ keys → at + (10 + 12 * keys) ≤ length out → h ≡ placed out at (heading n)
+    → keys ≤ k → placed o (cellAt at es k) (cells (drop k es)) ≡ placed h (cellAt at es 0) (cells es) → f ≡ set o (cellAt at es keys) lineFeed → f ≡ placed out at (lineBytes (lineOf n es))
+line-done out h o f at n keys es k e room eh end cells-left ef =
+    ef ∙ line-written out h o at n keys es e room eh (sym (cells-end at es o k (omega arith)) ∙ cells-left)

@@ -1,49 +1,41 @@
 -- The loop keeps what `Inv` of proofs/Loop.antt says; every turn cites the law of its kind, and each ending the test that finds it.
 use Prim.Native.Nat.{ℕ, _+_, _-_, _*_, _<_, _≤_}
 use mathlib.Core.Path.{_≡_, refl, sym, ap, _∙_}
-use mathlib.Core.Bool.{Bool, false}
+use mathlib.Core.Bool.{false}
 use mathlib.Core.List.{List, []}
 use native.Mathlib.{Omega.arith, Nat.add-zero}
 use borrow.Author.{Needs.needs, Needs.sfits-of, Tests.lt-ltb, Tests.le-ltb}
-use lib.{Dec.ltb, ListN.length, ListN.getD, ListN.drop, ListN.length-set}
+use lib.{ListN.length, ListN.getD, ListN.length-set}
 use mir.{Syntax.w32, Val.toZ, Val.ofZ, ValLaws.toZ-ofZ}
-use Rattle.model.specs.{Step.variable, Step.callOf, Step.callsBy, Limits.variables, Stored.keyCapacity, Stored.messageCapacity, Stored.keysIn, Stored.entriesIn}
+use Rattle.model.specs.{Step.variable, Step.callOf, Step.callsBy, Limits.variables, Stored.keyCapacity, Stored.messageCapacity}
 use Rattle.model.specs.{Stored.levelOf, Line.cells, Accepted.Within, State.ticked, Verdict.short, Verdict.waits, Verdict.verdictBy, Run.runJob, Answer.left}
 use Rattle.model.specs.{Answer.leftBy}
 use Rattle.model.specs.Stored as Stored
-use Rattle.model.specs.declared.{Call.Call, Level.Level, Execution.Execution, Clock.Clock, MessageLine.MessageLine, StoredJob.StoredJob, Answer.Answer}
+use Rattle.model.specs.declared.{Call.Call, Level.Level, Execution.Execution, Clock.Clock, StoredJob.StoredJob, Answer.Answer}
 use Rattle.model.specs.declared.{Answer.the-variants.Ended}
 use Rattle.model.specs.declared.Ending.the-variants.{Stopped, NoRoom}
 use Rattle.model.specs.declared.Call.the-variants.{Sends}
 use Rattle.model.specs.declared.Level.the-variants.{Low, High}
 use Rattle.run_step.proofs.Laws.{changedBy}
-use Rattle.run_message.specs.Message.{ReceivedTo}
-use Rattle.run_message.proofs.Laws.{received-more, received-all}
-use Rattle.write_line.specs.{Placed.placed, Line.columnsIn}
-use Rattle.write_line.proofs.Laws.{columns-at, columns-count, cellAt, cells-again, cells-end, line-written}
 use Rattle.run_verdict.specs.Verdict.{countsAs}
 use Rattle.run_job.specs.{Held.Held, Held.withTaken, Held.withMessage, Held.withBytes, Turn.Turned}
 use Rattle.run_job.proofs.{Views.commandAt, Views.Ready, Views.few, Views.below-or-first, Views.operands-at, Loop.Kept, Loop.Inv, Loop.begins, Loop.Small}
 use Rattle.run_job.proofs.{Loop.small, Loop.same-length, Loop.counts-fit, Loop.ends}
 use Rattle.run_job.proofs.{Loop.found-used, Loop.found-stopped, Loop.found-by, Loop.again, Loop.short-neither, Loop.short-receives, Loop.short-sends}
 use Rattle.run_job.proofs.{Turn.commanded, Turn.calledBy, Turn.receive-turn, Turn.send-turn, Turn.command-turn}
-use Rattle.run_job.proofs.{Turn.idle-at-end, Turn.idle-waiting}
+use Rattle.run_job.proofs.{Turn.idle-turn, Turn.ends-idle, Turn.waits-here}
+use Rattle.run_job.proofs.Keys.{Filling, Writing, fill-more, fill-done, write-more, write-done}
 use Rattle.run_job.proofs.run_job.Statement.{statement}
 use Rattle.run_job.proofs.run_job.Tie as tie
 
--- the message, filled in place: the first k fields are as the receive leaves them
 abbrev Inv-loop2 : tie.InvT-loop2
-Inv-loop2 out job keys count line-bytes low high message₀ clock bytes taken at p t line more k₀ message k =
-    (k ≤ keys) × (length message ≡ keyCapacity) × ReceivedTo k keys message (keysIn keys (job .secrets)) more (entriesIn keys line)
+Inv-loop2 out job keys count line-bytes low high message₀ clock bytes taken at p t line more k₀ message k = Filling job line more message k
 
 abbrev μ-loop2 : tie.MeasureT-loop2
 μ-loop2 out job keys count line-bytes low high message₀ clock bytes taken at p t line more k₀ message k = keys - k
 
--- the line, written in place: the cells that are still to write make of the memory what all of them make of it
 abbrev Inv-loop3 : tie.InvT-loop3
-Inv-loop3 out₀ job keys count line-bytes low high message clock bytes taken at p k₀ out k =
-    let es = columnsIn keys (job .secrets) message in
-    (length out ≡ length out₀) × (k ≤ keys) × (placed out (cellAt bytes es k) (cells (drop k es)) ≡ placed out₀ (cellAt bytes es 0) (cells es))
+Inv-loop3 out₀ job keys count line-bytes low high message clock bytes taken at p k₀ out k = Writing job message bytes out₀ out k
 
 abbrev μ-loop3 : tie.MeasureT-loop3
 μ-loop3 out₀ job keys count line-bytes low high message clock bytes taken at p k₀ out k = keys - k
@@ -164,27 +156,13 @@ line-below c = let l = lowLoop (receiveLow (c .before)) in below-or-first _ _ _ 
 abbrev fillOf : tie.At-loop2 Inv-loop2 μ-loop2 Inv-loop3 μ-loop3 Inv-loop μ-loop → tie.After-enum-told2 Inv-loop2 μ-loop2 Inv-loop3 μ-loop3 Inv-loop μ-loop
 fillOf c = c .before .before .before
 
--- the line that the receive reads, and whether there is one
-abbrev lineOf : tie.At-loop2 Inv-loop2 μ-loop2 Inv-loop3 μ-loop3 Inv-loop μ-loop → MessageLine
-lineOf c = getD (jobOf (lowLoop (receiveLow (fillOf c))) .messages) (c .before .before .readable .result) (record { slots = [] })
-
-abbrev lineLeft : tie.At-loop2 Inv-loop2 μ-loop2 Inv-loop3 μ-loop3 Inv-loop μ-loop → Bool
-lineLeft c = let l = lowLoop (receiveLow (fillOf c)) in ltb (l .loop .taken) (jobOf l .«message_count»)
-
 loop2-holds : tie.Need-loop2-holds Inv-loop2 μ-loop2 Inv-loop3 μ-loop3 Inv-loop μ-loop
-loop2-holds c = (omega arith, lowLoop (receiveLow (c .before .before)) .loop .inv .full, λ l. refl)
+loop2-holds c = record { most = omega arith; full = lowLoop (receiveLow (c .before .before)) .loop .inv .full; done = λ l. refl }
 
 loop2-again : tie.Need-loop2-again Inv-loop2 μ-loop2 Inv-loop3 μ-loop3 Inv-loop μ-loop
 loop2-again c =
     let at = c .before .before .before .before in
-    let i = at .loop2 in
-    let low = lowLoop (receiveLow (fillOf at)) in
-    let j = jobOf low in (
-      omega arith,
-      simp length-set (i .inv .1),
-      received-more (j .keys) (j .secrets) (lineOf at .slots) (ready low .1 .keys) (lineLeft at) (i .message) (i .k)
-          (c .received .result) (omega arith) (omega (arith, few (ready low) .keys)) (c .received .ensures) (i .inv .2),
-    )
+    fill-more (ready (lowLoop (receiveLow (fillOf at)))) (at .loop2 .inv) (c .before .before .before .loop2-test .taken) (c .received .result) (c .received .ensures)
 
 -- the fields are all filled
 abbrev filledOf : tie.After-ticked Inv-loop2 μ-loop2 Inv-loop3 μ-loop3 Inv-loop μ-loop → tie.After-loop2 Inv-loop2 μ-loop2 Inv-loop3 μ-loop3 Inv-loop μ-loop
@@ -204,13 +182,11 @@ after-receive c =
     let t = receiveOf c in
     let low = receiveLow t in
     let l = lowLoop low in
-    let j = jobOf l in
     let call = sym (t .before .before .call-of .ensures) ∙ t .enum-told2 .given .1 in
     let place = at .before .before .readable in
-    let all : i .k ≡ j .keys = omega (arith, filledOf c .loop2-test .left) in
     goes-on low call (short-receives _ _)
     (receive-turn (ready l) (l .loop .inv .kept .sent) (heldAt l) (l .loop .inv .live) (c .ticked .result) (c .ticked .ensures) (c .before .called .result) (c .before .called .ensures)
-    call (place .result) (record { slots = [] }) (place .ensures) (i .message) (received-all (j .keys) (j .secrets) (lineOf at .slots) (ready l .1 .keys) (lineLeft at) (i .message) (i .k) all (i .inv .2))
+    call (place .result) (record { slots = [] }) (place .ensures) (i .message) (fill-done (ready l) (i .inv) (filledOf c .loop2-test .left))
     (n .taken-after .result) (n .taken-after .ensures) _)
 
 -- a send
@@ -247,26 +223,15 @@ roomOf c = headedOf c .before .before
 abbrev sentFrom : tie.At-loop3 Inv-loop2 μ-loop2 Inv-loop3 μ-loop3 Inv-loop μ-loop → tie.At-loop Inv-loop2 μ-loop2 Inv-loop3 μ-loop3 Inv-loop μ-loop
 sentFrom c = lowLoop (sendLow (roomOf c .before))
 
--- the line's columns, one for each key
-columns-are : (c : tie.At-loop3 Inv-loop2 μ-loop2 Inv-loop3 μ-loop3 Inv-loop μ-loop) → let l = sentFrom c in let j = jobOf l in length (columnsIn (j .keys) (j .secrets) (l .loop .message)) ≡ j .keys
-columns-are c = let l = sentFrom c in columns-count (jobOf l .keys) (jobOf l .secrets) (l .loop .message) (ready l .1 .keys)
-
 room-left : (c : tie.At-loop3 Inv-loop2 μ-loop2 Inv-loop3 μ-loop3 Inv-loop μ-loop) → let l = sentFrom c in l .loop .bytes + (10 + 12 * jobOf l .keys) ≤ length (c .loop3 .out)
-room-left c = omega (arith, room-now (roomOf c), headedOf c .heading .kept .0, c .loop3 .inv .0)
+room-left c = omega (arith, room-now (roomOf c), headedOf c .heading .kept .0, c .loop3 .inv .same)
 
 loop3-again : tie.Need-loop3-again Inv-loop2 μ-loop2 Inv-loop3 μ-loop3 Inv-loop μ-loop
 loop3-again c =
     let w = c .before .before in
-    let at = w .before .before .before .before .before in
-    let i = at .loop3 in
-    let l = sentFrom at in
-    let j = jobOf l in
-    let es = columnsIn (j .keys) (j .secrets) (l .loop .message) in
-    let column = sym (columns-at (j .keys) (j .secrets) (l .loop .message) (ready l .1 .keys) (i .k) (omega arith)) in (
-      w .key-cell .kept .0 ∙ i .inv .0,
-      omega arith,
-      cells-again (l .loop .bytes) es (i .out) _ (i .k) _ (omega (arith, columns-are at)) (omega (arith, room-left at)) column (w .key-cell .ensures) ∙ i .inv .2,
-    )
+    let i = w .before .before .before .before in
+    let at = i .before in
+    write-more (ready (sentFrom at)) (at .loop3 .inv) (i .loop3-test .taken) (omega (arith, room-now (roomOf at), headedOf at .heading .kept .0)) _ (w .key-cell .kept .0) (w .key-cell .ensures)
 
 -- the line stands: its heading, its cells, its line feed
 abbrev cellsOf : tie.After-ticked2 Inv-loop2 μ-loop2 Inv-loop3 μ-loop3 Inv-loop μ-loop → tie.After-loop3 Inv-loop2 μ-loop2 Inv-loop3 μ-loop3 Inv-loop μ-loop
@@ -284,15 +249,11 @@ after-send c =
     let e = roomOf at .before in
     let low = sendLow e in
     let l = lowLoop low in
-    let j = jobOf l in
-    let i = at .loop3 in
-    let es = columnsIn (j .keys) (j .secrets) (l .loop .message) in
-    let done : i .out ≡ placed (headedOf at .heading .last .0) (cellAt (l .loop .bytes) es 0) (cells es) =
-    sym (cells-end (l .loop .bytes) es (i .out) (i .k) (omega (arith, columns-are at, cellsOf c .loop3-test .left))) ∙ i .inv .2 in
-    let line = line-written (l .loop .out) _ (i .out) (l .loop .bytes) (l .loop .clock .positions) (j .keys) es (columns-are at) (room-now (roomOf at)) (headedOf at .heading .ensures) done in
     goes-on low (call-send e) (short-sends _ _ ∙ le-ltb _ _ (roomOf at .if3 .left))
     (send-turn (ready l) (l .loop .inv .kept .sent) (heldAt l) (l .loop .inv .live) (c .ticked2 .result) (c .ticked2 .ensures) (c .before .called2 .result) (c .before .called2 .ensures)
-    (call-send e) (10 + 12 * j .keys) refl _ _ (c .before .before .before .before .line-end .ensures ∙ line))
+    (call-send e) (10 + 12 * jobOf l .keys) refl _ _
+    (write-done (ready l) (at .loop3 .inv) (cellsOf c .loop3-test .left) (l .loop .out) (l .loop .clock .positions) (room-now (roomOf at)) (headedOf at .heading .ensures)
+    _ (c .before .before .before .before .line-end .ensures)))
 
 -- a command that is no call
 abbrev commandLow : tie.After-enum-told4 Inv-loop2 μ-loop2 Inv-loop3 μ-loop3 Inv-loop μ-loop → tie.After-enum-told Inv-loop2 μ-loop2 Inv-loop3 μ-loop3 Inv-loop μ-loop
@@ -381,7 +342,8 @@ loop-again-4 : tie.Need-loop-again-4 Inv-loop2 μ-loop2 Inv-loop3 μ-loop3 Inv-l
 loop-again-4 c =
     let t = c .before .before in
     let l = highLoop t in
-    passes t (idle-at-end (ready l) (l .loop .inv .kept .sent) (heldAt l) High refl (c .before .if6 .taken) _ (c .ticked4 .ensures) _) refl (l .loop .inv .full)
+    let idle = ends-idle (ready l) (l .loop .inv .kept .sent) (heldAt l) High (c .before .if6 .taken) in
+    passes t (idle-turn (ready l) (l .loop .inv .kept .sent) (heldAt l) High refl idle _ (c .ticked4 .ensures) _) refl (l .loop .inv .full)
 
 -- the high execution is not at the end
 abbrev highOf : tie.Else6 Inv-loop2 μ-loop2 Inv-loop3 μ-loop3 Inv-loop μ-loop → tie.After-enum-told5 Inv-loop2 μ-loop2 Inv-loop3 μ-loop3 Inv-loop μ-loop
@@ -405,7 +367,8 @@ loop-again-5 c =
     let w = c .before .before in
     let g = goingOf w in
     let l = highLoop (highOf g) in
-    passes (highOf g) (idle-waiting (ready l) (l .loop .inv .kept .sent) (heldAt l) High (high-live g) refl (waits-is w ∙ c .before .if7 .taken) _ (c .ticked5 .ensures) _) refl (l .loop .inv .full)
+    let idle = waits-here (ready l) (l .loop .inv .kept .sent) (heldAt l) High (high-live g) ∙ waits-is w ∙ c .before .if7 .taken in
+    passes (highOf g) (idle-turn (ready l) (l .loop .inv .kept .sent) (heldAt l) High refl idle _ (c .ticked5 .ensures) _) refl (l .loop .inv .full)
 
 abbrev movesOf : tie.After-index6 Inv-loop2 μ-loop2 Inv-loop3 μ-loop3 Inv-loop μ-loop → tie.Else7 Inv-loop2 μ-loop2 Inv-loop3 μ-loop3 Inv-loop μ-loop
 movesOf c = c .before .before .before .before
@@ -473,49 +436,31 @@ pub run-job-spec : {M : Type 1} → statement M
 run-job-spec =
     tie.close
     (tie.spec
-    Inv-loop2 μ-loop2 Inv-loop3 μ-loop3 Inv-loop μ-loop
-    (λ c. omega (arith, few (c .before .pre) .keys)) (λ c. omega (arith, few (c .before .pre) .keys))
-    (λ c κs. search needs) (λ c κs. search needs) (λ c κs. search needs) (λ c κs. search needs)
-    loop-holds
-    ended-requires
-    (λ c. let l = c .before .before in same-length (ready l) (l .loop .inv .kept))
-    returns
-    (λ c. omega (arith, few (ready (c .before)) .letters, c .if1 .left))
+    Inv-loop2 μ-loop2 Inv-loop3 μ-loop3 Inv-loop μ-loop (λ c. omega (arith, few (c .before .pre) .keys)) (λ c. omega (arith, few (c .before .pre) .keys))
+    (λ c κs. search needs) (λ c κs. search needs) (λ c κs. search needs) (λ c κs. search needs) loop-holds ended-requires
+    (λ c. let l = c .before .before in same-length (ready l) (l .loop .inv .kept)) returns (λ c. omega (arith, few (ready (c .before)) .letters, c .if1 .left))
     (λ c κs. search needs) (λ c. search needs)
     (λ c. omega (arith, lowLoop c .loop .inv .live, few (ready (lowLoop c)) .commands)) (λ c. omega (arith, lowLoop c .loop .inv .live, few (ready (lowLoop c)) .commands))
-    (λ c κs. search needs) (λ c. search needs) (λ c κs. search needs)
-    (λ c. omega (arith, line-below c)) (λ c. omega (arith, line-below c))
-    loop2-holds
+    (λ c κs. search needs) (λ c. search needs) (λ c κs. search needs) (λ c. omega (arith, line-below c)) (λ c. omega (arith, line-below c)) loop2-holds
     (λ c. omega (arith, key-in c)) (λ c. omega (arith, key-in c)) (λ c. omega (arith, key-in (c .before))) (λ c. omega (arith, key-in (c .before)))
-    (λ c κs. search needs)
-    (λ c. omega (arith, key-in (c .before .before .before))) (λ c. omega (arith, key-in (c .before .before .before)))
-    (λ c. omega (arith, key-in (c .before .before .before)))
-    (λ c. omega (arith, c .before .before .before .loop2-test .taken))
-    loop2-again
-    (λ c κs. search needs)
-    (λ c κs. calls-low (lowLoop (receiveLow (fillOf (c .before .before)))))
-    (λ c κs. ticks (lowLoop (receiveLow (fillOf (c .before .before .before)))))
+    (λ c κs. search needs) (λ c. omega (arith, key-in (c .before .before .before))) (λ c. omega (arith, key-in (c .before .before .before)))
+    (λ c. omega (arith, key-in (c .before .before .before))) (λ c. omega (arith, c .before .before .before .loop2-test .taken)) loop2-again (λ c κs. search needs)
+    (λ c κs. calls-low (lowLoop (receiveLow (fillOf (c .before .before))))) (λ c κs. ticks (lowLoop (receiveLow (fillOf (c .before .before .before)))))
     (λ c κs. let t = c .before in counts-fit (ready (lowLoop (receiveLow (receiveOf t)))) (after-receive t))
     (λ c. let t = c .before .before in same-length (ready (lowLoop (receiveLow (receiveOf t)))) (after-receive t))
     (λ c. let t = c .before .before in stops (receiveLow (receiveOf t)) (after-receive t) (c .before .if2 .taken) (c .ended2 .result) (c .ended2 .ensures))
     (λ c. let t = c .before in fewer (lowLetter (receiveLow (receiveOf t))) Low _ (t .ticked .ensures))
-    (λ c. record { kept = after-receive (c .before); full = filledOf (c .before) .before .loop2 .inv .1; live = omega (arith, c .if2 .left) })
-    (λ c. search needs)
-    (λ c. omega (arith, small-at (lowLoop (sendLow c)) .room))
-    (λ c κs. let l = lowLoop (sendLow (c .before)) in counts-fit (ready l) (l .loop .inv .kept))
-    (λ c. let l = lowLoop (sendLow (c .before .before)) in same-length (ready l) (l .loop .inv .kept))
-    returns-3
-    heading-requires
-    (λ c. (refl, omega arith, refl))
+    (λ c. record { kept = after-receive (c .before); full = filledOf (c .before) .before .loop2 .inv .full; live = omega (arith, c .if2 .left) }) (λ c. search needs)
+    (λ c. omega (arith, small-at (lowLoop (sendLow c)) .room)) (λ c κs. let l = lowLoop (sendLow (c .before)) in counts-fit (ready l) (l .loop .inv .kept))
+    (λ c. let l = lowLoop (sendLow (c .before .before)) in same-length (ready l) (l .loop .inv .kept)) returns-3 heading-requires
+    (λ c. record { same = refl; most = omega arith; rest = refl })
     (λ c. omega (arith, key-out c)) (λ c. omega (arith, key-out c)) (λ c. omega (arith, key-out (c .before))) (λ c. omega (arith, key-out (c .before)))
     (λ c κs. let i = c .before .before .before in (key-out i, omega (arith, room-left (i .before), i .loop3-test .taken)))
     (λ c. omega (arith, key-out (c .before .before .before .before .before .before)))
-    (λ c. omega (arith, c .before .before .before .before .before .before .loop3-test .taken))
-    loop3-again
+    (λ c. omega (arith, c .before .before .before .before .before .before .loop3-test .taken)) loop3-again
     (λ c κs. let at = c .before .before in (few (ready (sentFrom at)) .keys, room-left at))
     (λ c. let l = sentFrom (c .before .before .before .before .before) in omega (arith, small-at l .bytes, few (ready l) .keys))
-    (λ c κs. calls-low (sentFrom (c .before .before .before .before .before)))
-    (λ c κs. ticks (sentFrom (c .before .before .before .before .before .before)))
+    (λ c κs. calls-low (sentFrom (c .before .before .before .before .before))) (λ c κs. ticks (sentFrom (c .before .before .before .before .before .before)))
     (λ c κs. let t = c .before in counts-fit (ready (sentFrom (writeOf t))) (after-send t))
     (λ c. let t = c .before .before in same-length (ready (sentFrom (writeOf t))) (after-send t))
     (λ c. let t = c .before .before in stops (sendLow (roomOf (writeOf t) .before)) (after-send t) (c .before .if4 .taken) (c .ended4 .result) (c .ended4 .ensures))
@@ -525,39 +470,25 @@ run-job-spec =
     (λ c. omega (arith, key-low c)) (λ c. omega (arith, key-low c)) (λ c κs. search needs) (λ c κs. search needs) (λ c κs. search needs)
     (λ c. omega (arith, v-low (c .before .before))) (λ c. omega (arith, v-low (c .before .before)))
     (λ c. omega (arith, w-low (c .before .before))) (λ c. omega (arith, w-low (c .before .before)))
-    (λ c κs. lowLoop (commandLow (operandsOf (c .before .before .before))) .loop .inv .live)
-    (λ c κs. v-low (effectLow c .before))
+    (λ c κs. lowLoop (commandLow (operandsOf (c .before .before .before))) .loop .inv .live) (λ c κs. v-low (effectLow c .before))
     (λ c κs. v-low (effectLow (c .before) .before))
-    (λ c. omega (arith, v-low (effectLow (c .before .before) .before))) (λ c. omega (arith, v-low (effectLow (c .before .before) .before)))
-    (λ c κs. search needs)
-    (λ c. omega (arith, key-low (keyLow c))) (λ c. omega (arith, key-low (keyLow c)))
-    (λ c κs. ticks (lowLoop (commandLow (keyLow c .before))))
+    (λ c. omega (arith, v-low (effectLow (c .before .before) .before))) (λ c. omega (arith, v-low (effectLow (c .before .before) .before))) (λ c κs. search needs)
+    (λ c. omega (arith, key-low (keyLow c))) (λ c. omega (arith, key-low (keyLow c))) (λ c κs. ticks (lowLoop (commandLow (keyLow c .before))))
     (λ c κs. let t = c .before in counts-fit (ready (lowLoop (commandLow (keyLow (t .before) .before)))) (after-command t))
     (λ c. let t = c .before .before in same-length (ready (lowLoop (commandLow (keyLow (t .before) .before)))) (after-command t))
     (λ c. let t = c .before .before in stops (commandLow (keyLow (t .before) .before)) (after-command t) (c .before .if5 .taken) (c .ended5 .result) (c .ended5 .ensures))
     (λ c. let t = c .before in fewer (lowLetter (commandLow (keyLow (t .before) .before))) Low _ (t .ticked3 .ensures))
     (λ c. record { kept = after-command (c .before); full = simp length-set (lowLoop (commandLow (keyLow (c .before .before) .before)) .loop .inv .full); live = omega (arith, c .if5 .left) })
-    (λ c. search needs)
-    (λ c κs. ticks (highLoop (c .before)))
-    (λ c. fewer (highLetter (c .before .before)) High _ (c .ticked4 .ensures))
-    loop-again-4
+    (λ c. search needs) (λ c κs. ticks (highLoop (c .before))) (λ c. fewer (highLetter (c .before .before)) High _ (c .ticked4 .ensures)) loop-again-4
     (λ c. omega (arith, high-live c, few (ready (highLoop (highOf c))) .commands)) (λ c. omega (arith, high-live c, few (ready (highLoop (highOf c))) .commands))
-    (λ c κs. search needs) (λ c κs. search needs)
-    (λ c κs. ticks (highLoop (highOf (goingOf (c .before)))))
-    (λ c. fewer (highLetter (highOf (goingOf (c .before .before)))) High _ (c .ticked5 .ensures))
-    loop-again-5
-    (λ c κs. search needs)
+    (λ c κs. search needs) (λ c κs. search needs) (λ c κs. ticks (highLoop (highOf (goingOf (c .before)))))
+    (λ c. fewer (highLetter (highOf (goingOf (c .before .before)))) High _ (c .ticked5 .ensures)) loop-again-5 (λ c κs. search needs)
     (λ c. omega (arith, key-high c)) (λ c. omega (arith, key-high c)) (λ c κs. search needs) (λ c κs. search needs) (λ c κs. search needs)
     (λ c. omega (arith, v-high (c .before .before))) (λ c. omega (arith, v-high (c .before .before)))
     (λ c. omega (arith, w-high (c .before .before))) (λ c. omega (arith, w-high (c .before .before)))
-    (λ c κs. high-live (goingOf (movesOf (c .before .before .before) .before)))
-    (λ c κs. search needs)
+    (λ c κs. high-live (goingOf (movesOf (c .before .before .before) .before))) (λ c κs. search needs)
     (λ c. omega (arith, c .calls-by .ensures .1, small-at (highLoop (highOf (goingOf (movesOf (c .before .before .before .before .before) .before)))) .calls High))
-    (λ c κs. v-high (effectHigh c .before))
-    (λ c κs. v-high (effectHigh (c .before) .before))
-    (λ c. omega (arith, v-high (effectHigh (c .before .before) .before))) (λ c. omega (arith, v-high (effectHigh (c .before .before) .before)))
-    (λ c κs. search needs)
-    (λ c. omega (arith, key-high (keyHigh c))) (λ c. omega (arith, key-high (keyHigh c)))
-    (λ c κs. ticks (highLoop (highOf (goingOf (keyHigh c .before .before)))))
-    (λ c. fewer (highLetter (highOf (goingOf (keyHigh (c .before) .before .before)))) High _ (c .ticked6 .ensures))
-    loop-again-6)
+    (λ c κs. v-high (effectHigh c .before)) (λ c κs. v-high (effectHigh (c .before) .before))
+    (λ c. omega (arith, v-high (effectHigh (c .before .before) .before))) (λ c. omega (arith, v-high (effectHigh (c .before .before) .before))) (λ c κs. search needs)
+    (λ c. omega (arith, key-high (keyHigh c))) (λ c. omega (arith, key-high (keyHigh c))) (λ c κs. ticks (highLoop (highOf (goingOf (keyHigh c .before .before)))))
+    (λ c. fewer (highLetter (highOf (goingOf (keyHigh (c .before) .before .before)))) High _ (c .ticked6 .ensures)) loop-again-6)

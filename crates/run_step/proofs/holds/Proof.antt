@@ -3,10 +3,10 @@ use mathlib.Core.Path.{_≡_, ap, sym, _∙_}
 use Prim.Native.Nat.{ℕ}
 use mir.{Syntax.w32, ValLaws.toZ-ofZ}
 use borrow.Author.Needs.{needs, sfits-of}
 use Rattle.model.specs.Step.{variable}
 use Rattle.model.proofs.Variables.{last-place}
-use Rattle.model.proofs.Execution.holds.Statement.{statement}
-use Rattle.model.proofs.Execution.holds.Tie as tie
+use Rattle.run_step.proofs.holds.Statement.{statement}
+use Rattle.run_step.proofs.holds.Tie as tie
 
 module _ (s : tie.Start) where
   arm : (k : ℕ) → s .args .v ≡ k → variable (s .args .t1) k ≡ variable (s .args .t1) (s .args .v)
