@@ -7,7 +7,7 @@ ghost use Prim.Native.Nat.{_<_};
 ghost use lib.ListN.{replicate};
 ghost use Rattle.model.specs.{Limits.variables, Command.blank, Step.begun as Execution·begun, Step.afterOf, Step.calledOf, Stored.keyCapacity};
 ghost use Rattle.model.specs.{Stored.commandCapacity, Stored.messageCapacity, Stored.openSlot, Stored.absentSlot, Stored.blankLine, Stored.nothingStored};
-ghost use Rattle.model.specs.{Form.formOne};
+ghost use Rattle.model.specs.Form.{formOne};
 ghost use Rattle.model.specs.declared.Op.the-variants.{Stop};
 
 // The limits of every sheet.

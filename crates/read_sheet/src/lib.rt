@@ -18,8 +18,7 @@ ghost use mathlib.Core.Path.{_≡_};
 ghost use Prim.Native.Nat.{_+_, _≤_};
 ghost use lib.ListN.{length, take};
 ghost use Rattle.model.specs.{Limits.mostBytes, Text.lines, Stored.keysIn, Stored.Stored, Stored.jobOf, Form.formOf, Form.Fits, Sheet.refused, Sheet.targets};
-ghost use Rattle.model.specs.{Sheet.readBody};
-ghost use Rattle.model.specs.{Sheet.readLines, Sheet.readSheet};
+ghost use Rattle.model.specs.{Sheet.readBody, Sheet.readLines, Sheet.readSheet};
 ghost use Rattle.read_sheet.specs.Sheet.{Answers};
 
 pub enum Status {

@@ -18,10 +18,9 @@ pub fn level_of(letter: u8) -> Level
     ensures { λ r. ⌜ r ≡ levelOf letter ⌝ }
 {
     if letter == b'L' {
-        Level::Low
-    } else {
-        Level::High
+        return Level::Low;
     }
+    Level::High
 }
 
 // A place that can be read: i itself below n, else 0.
