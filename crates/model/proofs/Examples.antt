@@ -16,6 +16,8 @@ use Rattle.model.specs.Step as Step
 use Rattle.model.specs.State as State
 use Rattle.model.specs.Message as Message
 use Rattle.model.specs.Run as Run
+use Rattle.model.specs.Decimal as Decimal
+use Rattle.model.specs.Placed as Placed
 use Rattle.model.specs.Line as Line
 use Rattle.model.specs.Verdict as Verdict
 use Rattle.model.specs.Answer as Answer
@@ -41,8 +43,9 @@ unfolding Text.bytes Text.classOf Text.same Text.find Text.divide Text.split Tex
     Message.shown Message.fill Message.received Message.receive Message.source Message.columns Message.lineNow Message.send
     Verdict.waits Verdict.short Verdict.idles Verdict.noRoom Verdict.verdict
     Run.share Run.lead Run.followed Run.follow Run.turn Run.ended Run.run Run.fresh Run.initial Run.runJob
-    Line.lineLength Line.digits Line.sign Line.cell Line.cells Line.heading Line.lineBytes Line.bytesOf Line.memoryAfter
-    Answer.numbersOf Answer.runSheet Answer.decimal Answer.natural Answer.spaced Answer.report Answer.printed
+    Decimal.digits Decimal.widthTo Decimal.width Decimal.natural Placed.front
+    Line.lineLength Line.sign Line.cell Line.cells Line.heading Line.lineBytes Line.bytesOf Line.memoryAfter
+    Answer.numbersOf Answer.runSheet Answer.spaced Answer.report Answer.printed
     Examples.result Examples.sheetA Examples.sheet8 Examples.list
 opened = tt
 

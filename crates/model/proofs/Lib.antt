@@ -1,4 +1,5 @@
 -- The proofs about the model.
+pub mod Placed
 pub mod Examples
 pub mod Variables
 pub mod Stored
@@ -11,3 +12,4 @@ pub mod Line
 pub mod Secrecy
 pub mod Accepted
 pub mod Witness
+pub mod Written

@@ -5,7 +5,7 @@ use mathlib.Core.Logic.{_≢_}
 use mathlib.Core.List.{List, [], _∷_}
 use lib.ListN.{length, getD, drop, length-append}
 use native.Mathlib.{Omega.arith, Nat.suc-inj}
-use Rattle.model.specs.{Job.Job, Run.Outcome, Run.runJob, Message.source, Line.lineLength, Line.bytesOf, Line.memoryAfter, Answer.leftBy, Answer.numbersOf}
+use Rattle.model.specs.{Job.Job, Run.Outcome, Run.runJob, Message.source, Line.lineLength, Line.bytesOf, Line.memoryAfter, Placed.front, Answer.leftBy, Answer.numbersOf}
 use Rattle.model.specs.{Answer.runSheet, Secrecy.OwnedBy, Secrecy.Hidden, Secrecy.Indistinguishable, Secrecy.SecrecyOf, Secrecy.SheetSecrecyOf}
 use Rattle.model.specs.Data.{Entry, Key, Open, Secret, Level, Low, High, Ending, Counts, Ended}
 use Rattle.model.proofs.{Lockstep.LineLike, Lockstep.RestLike, Lockstep.Same, Lockstep.run-alike, Lockstep.initial-alike, Levels.low≢high, Line.split}
@@ -39,11 +39,11 @@ module _ (o : Level) (ks : List Key) (m : List ℕ) (x y : Outcome) (hid : Low �
   size = ey ∙ sym (ap (λ (c : Counts). c .bytes) (same .counts))
 
   memory-size : length (memoryAfter m (x .lines)) ≡ length (memoryAfter m (y .lines))
-  unfolding memoryAfter
+  unfolding memoryAfter front
   memory-size = length-append (bytesOf (x .lines)) _ ∙ ap (λ (n : ℕ). n + length (drop n m)) (ex ∙ sym size) ∙ sym (length-append (bytesOf (y .lines)) _)
 
   memory-byte : (p : ℕ) → ¬ Hidden o ks (x .counts .bytes) p → getD (memoryAfter m (x .lines)) p 0 ≡ getD (memoryAfter m (y .lines)) p 0
-  unfolding memoryAfter lineLength
+  unfolding memoryAfter front lineLength
   memory-byte p clear =
       split (bytesOf (x .lines)) (bytesOf (y .lines)) _ _ (x .counts .bytes) ex size p
       (λ below. bytes-at o (same .lines) p (λ k isKey own from to.

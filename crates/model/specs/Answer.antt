@@ -1,9 +1,9 @@
 -- What a run of a whole sheet answers, prints and leaves in the memories that are lent to it.
-use Prim.Native.Nat.{ℕ, _*_, zero, suc, _+_, _/_, _%_}
+use Prim.Native.Nat.{ℕ, _*_, _/_, _%_}
 use mathlib.Core.List.{List, [], _∷_, _++_}
-use lib.{ListN.length, ListN.getD, ListN.take, Dec.ltb, Dec.eqb}
+use lib.{ListN.length, ListN.getD, ListN.take, Dec.eqb}
 use mathlib.Core.Bool.{cond}
-use Rattle.model.specs.{Text.bytes, Text.lineFeed, Text.space, Text.zeroDigit, Run.Outcome, Run.runJob, Line.memoryAfter, Sheet.Reading, Sheet.refused}
+use Rattle.model.specs.{Text.bytes, Text.lineFeed, Text.space, Decimal.natural, Run.Outcome, Run.runJob, Line.memoryAfter, Sheet.Reading, Sheet.refused}
 use Rattle.model.specs.{Sheet.accepted, Sheet.readSheet}
 use Rattle.model.specs.Data.{Ending, Stopped, LettersUsed, NoRoom, Answer, Ended, Refused}
 
@@ -41,15 +41,6 @@ runSheet s m = leave m (readSheet s)
 
 -- ---- `runsheet`
 
--- a number at its natural width: its decimal digits, at most f of them, before those that stand already
-unfoldable pub decimal : ℕ → ℕ → List ℕ → List ℕ
-decimal zero n s = s
-decimal (suc f) n s = cond (ltb n 10) ((zeroDigit + n) ∷ s) (decimal f (n / 10) ((zeroDigit + n % 10) ∷ s))
-
--- a number of 32 bits has at most ten digits
-unfoldable pub natural : ℕ → List ℕ
-natural n = decimal 10 n []
-
 -- "single spaces between"
 unfoldable pub spaced : List ℕ → List ℕ
 spaced [] = []
@@ -71,7 +62,7 @@ printedBy l = take (bytesWritten (numbersOf (l .answer))) (l .memory) ++ report 
 unfoldable pub printed : List ℕ → List ℕ → List ℕ
 printed s m = printedBy (runSheet s m)
 
--- ---- The C entry
+-- ---- The C entries
 
 -- "32 bits each, low byte first"
 unfoldable pub le32 : ℕ → List ℕ
@@ -87,18 +78,28 @@ pub record After : Type 0 where
   pub output : List ℕ
   pub answer : List ℕ
 
--- "The six numbers go there in 32 bits each, low byte first, and the first is also the return."
-abbrev pub answeredBy : Left → After
-answeredBy l = record { returned = getD (numbersOf (l .answer)) 0 0; output = l .memory; answer = allLe32 (numbersOf (l .answer)) }
+-- "The six numbers go there in 32 bits each, low byte first, and the first is also the return.": of any numbers, and the output memory m
+abbrev pub answered : List ℕ → List ℕ → After
+answered ns m = record { returned = getD ns 0 0; output = m; answer = allLe32 ns }
 
--- "Six numbers"
+-- so many numbers, each in 32 bits
+abbrev pub bytesFor : ℕ → ℕ
+bytesFor count = 4 * count
+
+-- Refusal 10: "the answer memory is not exactly 24 bytes; returned before anything else, nothing written". An entry whose answer has so many numbers comes
+-- to x, unless the answer memory a has another length than they take; m is the output memory.
+unfoldable pub entered : ℕ → List ℕ → List ℕ → After → After
+entered count m a x = cond (eqb (length a) (bytesFor count)) x (record { returned = 10; output = m; answer = a })
+
+-- "Six numbers": 24 bytes
 abbrev pub numberCount : ℕ
 numberCount = 6
 
--- each in 32 bits: 24 bytes
 abbrev pub answerBytes : ℕ
-answerBytes = 4 * numberCount
+answerBytes = bytesFor numberCount
 
--- Refusal 10: "the answer memory is not exactly 24 bytes; returned before anything else, nothing written"
+abbrev pub answeredBy : Left → After
+answeredBy l = answered (numbersOf (l .answer)) (l .memory)
+
 unfoldable pub runEntry : List ℕ → List ℕ → List ℕ → After
-runEntry s m a = cond (eqb (length a) answerBytes) (answeredBy (runSheet s m)) (record { returned = 10; output = m; answer = a })
+runEntry s m a = entered numberCount m a (answeredBy (runSheet s m))

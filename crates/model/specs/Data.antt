@@ -22,6 +22,7 @@ pub use Rattle.model.specs.declared.Ending.the-variants.{Stopped, Letter
 pub use Rattle.model.specs.declared.Counts.{Counts}
 pub use Rattle.model.specs.declared.Answer.{Answer}
 pub use Rattle.model.specs.declared.Answer.the-variants.{Ended, Refused}
+pub use Rattle.model.specs.declared.TextAnswer.{TextAnswer}
 pub use Rattle.model.specs.declared.KeySlot.{KeySlot}
 pub use Rattle.model.specs.declared.EntrySlot.{EntrySlot}
 pub use Rattle.model.specs.declared.MessageLine.{MessageLine}

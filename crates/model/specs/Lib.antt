@@ -1,9 +1,11 @@
--- Document 01 as definitions, in its order; then what is claimed of them.
+-- Document 01 as definitions, in its order, and what document 02 shares with it; then what is claimed of them.
 pub mod Data
 pub mod Limits
 pub mod Parsed
 pub mod Text
+pub mod Placed
 pub mod Number
+pub mod Decimal
 pub mod Phase
 pub mod Pair
 pub mod Head
@@ -23,6 +25,7 @@ pub mod Line
 pub mod Verdict
 pub mod Run
 pub mod Answer
+pub mod Written
 pub mod Secrecy
 pub mod Counted
 pub mod Accepted

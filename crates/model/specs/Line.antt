@@ -1,15 +1,10 @@
 -- The bytes of the lines sent, and the output memory after a run.
-use Prim.Native.Nat.{ℕ, zero, suc, _+_, _/_, _%_, _*_}
+use Prim.Native.Nat.{ℕ, _+_, _*_}
 use mathlib.Core.List.{List, [], _∷_, _++_}
 use mathlib.Core.Bool.{cond}
-use lib.{IntN.ℤ, IntN.natAbs, Signed.nonNeg, ListN.replicate, ListN.length, ListN.drop}
-use Rattle.model.specs.{Text.bytes, Text.lineFeed, Text.space, Text.plus, Text.minus, Text.dot, Text.zeroDigit, State.Sent}
+use lib.{IntN.ℤ, IntN.natAbs, Signed.nonNeg, ListN.replicate, ListN.length}
+use Rattle.model.specs.{Text.bytes, Text.lineFeed, Text.space, Text.plus, Text.minus, Text.dot, Decimal.digits, Placed.front, State.Sent}
 use Rattle.model.specs.Data.{Entry, Absent, Number, Key}
-
--- the last w decimal digits of a number
-unfoldable pub digits : ℕ → ℕ → List ℕ
-digits zero n = []
-digits (suc w) n = digits w (n / 10) ++ ((zeroDigit + n % 10) ∷ [])
 
 -- "a sign `+` or `-`"; "Zero has `+`."
 unfoldable pub sign : ℤ → ℕ
@@ -43,4 +38,4 @@ bytesOf (l ∷ ls) = lineBytes l ++ bytesOf ls
 
 -- "Lines sent earlier stand, and bytes after them are untouched": the output memory m after the lines
 unfoldable pub memoryAfter : List ℕ → List Sent → List ℕ
-memoryAfter m ls = bytesOf ls ++ drop (length (bytesOf ls)) m
+memoryAfter m ls = front m (bytesOf ls)

@@ -40,7 +40,7 @@ many w f n a [] = got a n []
 many w f n a (l ∷ ls) = eachLine n a (l ∷ ls) (after w l) (f a) (λ b. many w f (n + 1) b ls)
 
 -- One line more, at most limit of them. Refusal 8: "a 65th command, a 33rd message"; "3, then 8, then the rest"
-unfoldable pub oneMore : {A : Type 0} → ℕ → (List ℕ → Parsed A) → List A → List ℕ → Parsed (List A)
+unfoldable pub oneMore : {A B : Type 0} → ℕ → (B → Parsed A) → List A → B → Parsed (List A)
 oneMore limit f cs v = do
   need (ltb (length cs) limit) 8
   c ← f v

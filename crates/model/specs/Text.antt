@@ -104,6 +104,11 @@ init (p ∷ q ∷ ps) = p ∷ init (q ∷ ps)
 unfoldable pub lines : List ℕ → List (List ℕ)
 lines s = init (split lineFeed s)
 
+-- no c in a text
+unfoldable pub free : ℕ → List ℕ → Bool
+free c [] = true
+free c (b ∷ bs) = cond (eqb b c) false (free c bs)
+
 -- how many c a text has
 unfoldable pub count : ℕ → List ℕ → ℕ
 count c [] = 0

@@ -45,6 +45,11 @@ pub const NUMBERS: usize = 6;
 
 pub const ANSWER_BYTES: usize = 4 * NUMBERS;
 
+// The numbers of an answer to the writing of a text, and their bytes.
+pub const TEXT_NUMBERS: usize = 3;
+
+pub const TEXT_ANSWER_BYTES: usize = 4 * TEXT_NUMBERS;
+
 // A form of sheets, which the line `sheet` chooses: the most keys, commands, messages and letters that such a sheet may have, and the bytes of the
 // letters of its turns.
 pub struct Form {
@@ -225,6 +230,13 @@ pub struct Counts {
 pub enum Answer {
     Ended(Ending, Counts),
     Refused(u32, u32),
+}
+
+// What the writing of a text answers: 0 or a refusal's number, the line that it names, and the bytes written.
+pub struct TextAnswer {
+    pub number: u32,
+    pub line: u32,
+    pub bytes: u32,
 }
 
 // One key of an array of keys.

@@ -3,15 +3,15 @@ use Prim.Native.Nat.{ℕ, _-_, _≤_}
 use mathlib.Core.Path.{_≡_, refl, sym, ap, _∙_}
 use mathlib.Core.List.{List, []}
 use native.Mathlib.Omega.{arith}
-use lib.ListN.{length, getD, length-append, length-drop}
-use Rattle.model.specs.{Answer.After, Answer.Left, Answer.numbersOf, Answer.allLe32, Answer.answeredBy, Answer.leftBy, Answer.runSheet, Answer.runEntry, Answer.le32}
-use Rattle.model.specs.{Job.Job, Line.bytesOf, Line.memoryAfter, Sheet.Reading, Sheet.accepted, Sheet.readSheet, Run.runJob, Secrecy.Indistinguishable, Witness.sheet2}
+use lib.ListN.{length, getD}
+use Rattle.model.specs.{Answer.After, Answer.Left, Answer.numbersOf, Answer.allLe32, Answer.answeredBy, Answer.leftBy, Answer.numberCount, Answer.runSheet, Answer.entered, Answer.runEntry, Answer.le32}
+use Rattle.model.specs.{Job.Job, Placed.front, Line.bytesOf, Line.memoryAfter, Sheet.Reading, Sheet.accepted, Sheet.readSheet, Run.runJob, Secrecy.Indistinguishable, Witness.sheet2}
 use Rattle.model.specs.{Witness.sheet3, Witness.job2, Witness.job3, Witness.lent}
 use Rattle.model.specs.Sheet as Sheet
 use Rattle.model.specs.declared.Level.the-variants.{High}
-use Rattle.model.proofs.{Counted.counts-of, Examples.opened, Secrecy.secrecy, Witness.telling as witness}
+use Rattle.model.proofs.{Placed.front-length, Counted.counts-of, Examples.opened, Secrecy.secrecy, Witness.telling as witness}
 use Rattle.whole_sheet.proofs.Laws.{accepted-left, refused-left}
-use Rattle.pavebox.proofs.Laws.{entry-sized}
+use Rattle.pavebox.proofs.Laws.{entered-sized}
 use Rattle.pavebox.specs.Demands.{Called, Demand2, Demand1Holds, Demand2Holds, Demand3Holds, answerLent, CalledOn, Telling}
 
 -- ---- What a run sends fits the memory that is lent to it
@@ -21,15 +21,14 @@ sent-length j room = let c = counts-of j room in omega (arith, c .sent, c .room)
 
 memory-size : (j : Job) (m : List ℕ) → length (memoryAfter m (runJob j (length m) .lines)) ≡ length m
 unfolding memoryAfter
-memory-size j m =
-    length-append (bytesOf (runJob j (length m) .lines)) _
-    ∙ omega (arith, length-drop (length (bytesOf (runJob j (length m) .lines))) m, sent-length j (length m))
+memory-size j m = front-length m (bytesOf (runJob j (length m) .lines)) (sent-length j (length m))
 
 -- ---- A call, by the definition of the entry
 
 module _ {s o a : List ℕ} {r : ℕ} {o′ a′ : List ℕ} (c : Called s o a r o′ a′) where
   sized : runEntry s o a ≡ answeredBy (runSheet s o)
-  sized = entry-sized s o a (c .sized)
+  unfolding runEntry
+  sized = entered-sized numberCount o a (answeredBy (runSheet s o)) (c .sized)
 
   second : Demand2 s o a r o′ a′
   second =
@@ -45,7 +44,7 @@ left-size s o (accepted j) e = ap (λ (x : Left). length (x .memory)) (accepted-
 left-size s o (Sheet.refused n l) e = ap (λ (x : Left). length (x .memory)) (refused-left s o n l e)
 
 pub demand-1 : Demand1Holds
-unfolding memoryAfter numbersOf
+unfolding memoryAfter front numbersOf
 demand-1 s o a r o′ a′ c =
     let d = second c in
     record {
@@ -82,7 +81,7 @@ on : (s : List ℕ) → CalledOn s
 on s = record { sized = refl; met = record { returns = refl; outputs = refl; answers = refl } }
 
 pub telling : Telling
-unfolding opened runEntry le32 allLe32
+unfolding opened entered runEntry le32 allLe32
 telling =
     record {
       second = on sheet2;

@@ -1,10 +1,15 @@
--- The contract of the C entry: one definition, `runEntry` of the model, determines the return and both lent memories on every path.
+-- The contracts of the C entries: one definition of the model for each, which determines the return and both lent memories on every path.
 use Prim.Native.Nat.{ℕ}
 use mathlib.Core.Path.{_≡_}
 use mathlib.Core.List.{List}
-use Rattle.model.specs.Answer.{runEntry}
+use Rattle.model.specs.Answer.{After, runEntry}
 
-pub record Answered (sheet output answer : List ℕ) (returned : ℕ) (output′ answer′ : List ℕ) : Type 0 where
-  pub returns : returned ≡ runEntry sheet output answer .returned
-  pub outputs : output′ ≡ runEntry sheet output answer .output
-  pub answers : answer′ ≡ runEntry sheet output answer .answer
+-- a call that comes to x
+pub record Leaves (x : After) (returned : ℕ) (output′ answer′ : List ℕ) : Type 0 where
+  pub returns : returned ≡ x .returned
+  pub outputs : output′ ≡ x .output
+  pub answers : answer′ ≡ x .answer
+
+-- `pavebox_run`
+abbrev pub Answered : List ℕ → List ℕ → List ℕ → ℕ → List ℕ → List ℕ → Type 0
+Answered sheet output answer returned output′ answer′ = Leaves (runEntry sheet output answer) returned output′ answer′

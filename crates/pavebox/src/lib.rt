@@ -16,6 +16,6 @@ pub extern "C" fn pavebox_run(sheet: &[u8], output: &mut [u8], answer: &mut [u8]
     }
     let a = run_sheet(sheet, output);
     let ns = numbers(a);
-    put_numbers(answer, ns);
+    put_numbers(answer, &ns);
     ns[0]
 }

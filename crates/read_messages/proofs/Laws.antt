@@ -4,10 +4,10 @@ use mathlib.Core.List.{List, [], _∷_}
 use Prim.Native.Nat.{ℕ, _+_, _<_, _≤_}
 use native.Mathlib.Omega.{arith}
 use lib.{IntN.ℤ, ListN.length, ListN.take, ListN.drop, ListN.set, Seq.take-all, Seq.drop-drop}
-use Rattle.model.specs.{Parsed.got, Parsed.refused, Text.bytes, Text.comma, Text.find, Text.split, Pair.ByKey, Pair.pair, Messages.allAbsent, Messages.parts}
+use Rattle.model.specs.{Parsed.got, Parsed.refused, Text.bytes, Text.comma, Text.find, Text.split, Pair.ByKey, Pair.pair, Messages.allAbsent, Messages.parts, Text.free}
 use Rattle.model.specs.{Messages.message, Messages.messageLine, Stored.entryIn, Stored.firstOf}
 use Rattle.model.specs.declared.{Entry.Entry, Entry.the-variants.Number, EntrySlot.EntrySlot}
-use Rattle.read_text.specs.Text.{free, Word}
+use Rattle.read_text.specs.Text.{Word}
 use Rattle.read_text.proofs.Lines.{split-end, split-at, split-first}
 use Rattle.read_pair.specs.Pair.{byKey}
 use Rattle.read_pair.proofs.Laws.{part-bad, part-ok}

@@ -5,11 +5,11 @@ use Prim.Native.Nat.{ℕ, _+_, _<_, _≤_, zero-le}
 use native.Mathlib.{Numerals.add-one, Omega.arith}
 use lib.{ListN.length, ListN.take, ListN.drop, ListN.getD, ListN.drop-of-length-le, Seq.drop-cons, Seq.getD-take, Seq.length-take-le}
 use borrow.Author.Tests.{lt-ltb, le-ltb}
-use Rattle.model.specs.{Text.bytes, Text.lines, Command.limits, Command.readCommand, Job.Job, Phase.many, Phase.oneMore, Phase.some}
+use Rattle.model.specs.{Text.bytes, Text.lines, Command.limits, Command.readCommand, Job.Job, Phase.many, Phase.oneMore, Phase.some, Text.free}
 use Rattle.model.specs.{Program.readCommands, Sheet.targets, Stored.commandCapacity}
 use Rattle.model.specs.Phase as Model
 use Rattle.model.specs.declared.{Form.Form, Command.Command}
-use Rattle.read_text.specs.Text.{free, Word}
+use Rattle.read_text.specs.Text.{Word}
 use Rattle.read_line.specs.Phase.{Reads}
 use Rattle.read_program.specs.Program.{FirstFar}
 use Rattle.read_line.specs.declared.Phase.the-variants.{Got, Refused}

@@ -6,12 +6,12 @@ use Prim.Native.Nat.{ℕ, suc, _+_, _-_, _<_, _≤_}
 use native.Mathlib.Omega.{arith}
 use lib.{Dec.eqb, ListN.length, ListN.take, ListN.drop, ListN.length-drop}
 use borrow.Author.Tests.{lt-ltb, le-ltb, le-leb, lt-leb}
-use Rattle.model.specs.{Limits.mostBytes, Text.bytes, Text.lines, Text.count, Text.classOf, Text.lineFeed, Pair.ByKey, Form.formOf, Head.sheetLine, Head.keysLine}
+use Rattle.model.specs.{Limits.mostBytes, Text.bytes, Text.lines, Text.count, Text.classOf, Text.lineFeed, Pair.ByKey, Form.formOf, Head.sheetLine, Head.keysLine, Text.free}
 use Rattle.model.specs.{Head.readFirst, Head.readKeys, Head.readSecrets, Program.readCommands, Messages.readMessages, Turns.readTurns, Job.Job, Sheet.Reading}
 use Rattle.model.specs.{Sheet.accepted, Sheet.refused, Sheet.next, Sheet.targets, Sheet.readBody, Sheet.readLines, Sheet.forbiddenLine, Sheet.closed, Sheet.readSheet}
 use Rattle.model.specs.Phase as Model
 use Rattle.model.specs.declared.{Form.Form, Entry.Entry, Key.Key, Command.Command, Level.Level}
-use Rattle.read_text.specs.Text.{free, Word}
+use Rattle.read_text.specs.Text.{Word}
 use Rattle.read_line.specs.Phase.{Reads, Ahead, phaseAs}
 use Rattle.read_line.specs.declared.Phase.{Phase}
 use Rattle.read_line.specs.declared.Phase.the-variants.{Got, Refused}

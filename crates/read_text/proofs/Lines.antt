@@ -7,8 +7,8 @@ use native.Mathlib.{Omega.arith, Decide.decLt}
 use lib.{Dec.eqb, Dec.ltb, ListN.length, ListN.take, ListN.drop, ListN.length-append, Seq.take-all, Seq.take-append-add, Seq.drop-append-add, Seq.take-append-seam}
 use borrow.Author.Tests.{eq-eqb, eqb-true, lt-ltb, le-ltb}
 use Rattle.model.specs.{Parsed.Parsed, Parsed.got, Parsed.refused, Text.find, Text.divide, Text.split, Text.grow, Text.lines, Text.init, Text.same, Phase.after}
-use Rattle.model.specs.{Phase.oneMore}
-use Rattle.read_text.specs.Text.{starts, free}
+use Rattle.model.specs.{Text.free, Phase.oneMore}
+use Rattle.read_text.specs.Text.{starts}
 
 -- the lines of a text
 pub split-last : (c : ℕ) (t : List ℕ) → length t ≤ find c t → split c t ≡ t ∷ []

@@ -4,7 +4,7 @@ use mathlib.Core.Bool.{Bool, true, false, cond}
 use mathlib.Core.List.{List, [], _∷_, _++_}
 use Prim.Native.Nat.{ℕ, suc}
 use lib.{Dec.eqb, IntN.ℤ}
-use Rattle.model.specs.{Parsed.Parsed, Parsed.got, Parsed.refused, Text.classOf, Text.forbiddenClass, Text.lineFeed, Text.equalsSign}
+use Rattle.model.specs.{Parsed.Parsed, Parsed.got, Parsed.refused, Text.classOf, Text.forbiddenClass, Text.lineFeed, Text.equalsSign, Text.free}
 use Rattle.read_text.specs.declared.{Natural.Natural, Whole.Whole}
 use Rattle.read_text.specs.declared.Natural.the-variants.{Got, Refused}
 use Rattle.read_text.specs.declared.Whole.the-variants.{Got as WholeGot, Refused as WholeRefused}
@@ -27,11 +27,6 @@ unfoldable pub starts : List ℕ → List ℕ → Bool
 starts [] t = true
 starts (x ∷ xs) [] = false
 starts (x ∷ xs) (b ∷ bs) = cond (eqb b x) (starts xs bs) false
-
--- no c in a text
-unfoldable pub free : ℕ → List ℕ → Bool
-free c [] = true
-free c (b ∷ bs) = cond (eqb b c) false (free c bs)
 
 -- a name w, as the code compares it: p has its equals sign too
 pub record Word (w p : List ℕ) : Type 0 where

@@ -10,7 +10,8 @@ use Rattle.model.specs.{Message.source, Line.cell, Line.cells, Line.heading, Li
 use Rattle.model.specs.declared.{Entry.Entry, Field.Field, Level.Level, MessageLine.MessageLine, StoredJob.StoredJob}
 use Rattle.run_message.specs.Message.{fieldOf, receivedBy, ReceivedTo}
 use Rattle.run_message.proofs.Laws.{received-more, received-all}
-use Rattle.write_line.specs.{Placed.placed, Line.columnsIn, Line.lineOf}
+use Rattle.model.specs.Placed.{placed}
+use Rattle.write_line.specs.Line.{columnsIn, lineOf}
 use Rattle.write_line.proofs.Laws.{columns-at, columns-count, cellAt, cells-again, line-done}
 use Rattle.run_job.proofs.Views.{Ready, few}
 
@@ -47,17 +48,17 @@ module _ {j : StoredJob} (ok : Ready j) where
     count : length es ≡ j .keys
     count = columns-count (j .keys) (j .secrets) message (ok .1 .keys)
 
-    pub write-more : k < j .keys → bytes + (10 + 12 * j .keys) ≤ length out₀ → (o : List ℕ) → length o ≡ length out
+    pub write-more : k < j .keys → (o : List ℕ) → length o ≡ length out
         → o ≡ placed out (bytes + (9 + 12 * k)) (space ∷ cell (side (source (getD (j .secrets) k openSlot .key)) (getD message k absentField))) → Writing j message bytes out₀ o (k + 1)
-    write-more b room o same eo =
+    write-more b o same eo =
         record {
           same = same ∙ w .same;
           most = omega arith;
           rest =
-              cells-again bytes es out o k _ (omega (arith, count)) (omega (arith, w .same))
+              cells-again bytes es out o k _ (omega (arith, count))
               (sym (columns-at (j .keys) (j .secrets) message (ok .1 .keys) k b)) eo (w .rest);
         }
 
-    pub write-done : j .keys ≤ k → (m : List ℕ) (n : ℕ) → bytes + (10 + 12 * j .keys) ≤ length m → out₀ ≡ placed m bytes (heading n)
+    pub write-done : j .keys ≤ k → (m : List ℕ) (n : ℕ) → out₀ ≡ placed m bytes (heading n)
         → (o : List ℕ) → o ≡ set out (bytes + (9 + 12 * j .keys)) lineFeed → o ≡ placed m bytes (lineBytes (lineOf n es))
-    write-done end m n room eh o eo = line-done m out₀ out o bytes n (j .keys) es k count room eh end (w .rest) eo
+    write-done end m n eh o eo = line-done m out₀ out o bytes n (j .keys) es k count eh end (w .rest) eo

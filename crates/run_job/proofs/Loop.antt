@@ -23,8 +23,8 @@ use Rattle.model.proofs.{Line.bytes-length, Counted.Reached, Counted.reached-fi
 use Rattle.run_message.specs.Message.{Cleared}
 use Rattle.run_message.proofs.Laws.{cleared-held}
 use Rattle.run_verdict.specs.Verdict.{CountsFit, countsAs}
-use Rattle.write_line.specs.Placed.{placed}
-use Rattle.write_line.proofs.Places.{placed-nil, placed-append, placed-length}
+use Rattle.model.specs.Placed.{placed}
+use Rattle.model.proofs.Placed.{placed-nil, placed-append, placed-length, placed-front}
 use Rattle.run_job.specs.{Held.Held, Held.recordOf, Held.processOf, Held.stateOf, Turn.Turned, Turn.lettersLeft, Turn.foundBefore}
 use Rattle.run_job.proofs.Views.{Ready, few, keys-count, program-count, lines-count, letters-go-on, letters-end}
 use Rattle.run_job.proofs.Turn.{commandOf, process-is, command-here}
@@ -33,10 +33,6 @@ bytes-append : (xs ys : List Sent) → bytesOf (xs ++ ys) ≡ bytesOf xs ++ byte
 unfolding bytesOf
 bytes-append [] ys = refl
 bytes-append (x ∷ xs) ys = ap (λ (r : List ℕ). lineBytes x ++ r) (bytes-append xs ys) ∙ sym (append-assoc (lineBytes x) (bytesOf xs) (bytesOf ys))
-
-memory-is : (m : List ℕ) (ls : List Sent) → placed m 0 (bytesOf ls) ≡ memoryAfter m ls
-unfolding placed memoryAfter
-memory-is m ls = ap (λ (n : ℕ). bytesOf ls ++ drop n m) (zero-add (length (bytesOf ls)))
 
 module _ (ks : List Key) (cs : List Command) (room : ℕ) where
   settled : (s : State) (rest : List Level) (e : Ending) → verdict ks cs room rest s ≡ Ends e → run ks cs room s rest ≡ ended e s
@@ -110,7 +106,7 @@ module _ {j : StoredJob} (ok : Ready j) where
     room = k .reached .room
 
     pub same-length : length out ≡ length out₀
-    same-length = ap length (k .memory) ∙ placed-length out₀ 0 (bytesOf (k .sent)) (omega (arith, long, room))
+    same-length = ap length (k .memory) ∙ placed-length out₀ 0 (bytesOf (k .sent))
 
     -- what the code counts stays small
     pub record Small : Type 0 where
@@ -149,9 +145,9 @@ module _ {j : StoredJob} (ok : Ready j) where
 
     -- an ending
     pub ends : (e : Ending) → found ≡ Ends e → (a : Answer) → a ≡ Ended e (countsAs (h .clock) (h .bytes) (h .taken)) → left a out ≡ leftBy out₀ (runJob (jobOf j) (length out₀))
-    unfolding ended stateOf
+    unfolding ended stateOf memoryAfter
     ends e v a ea =
-        ap₂ left ea (k .memory ∙ memory-is out₀ (k .sent))
+        ap₂ left ea (k .memory ∙ placed-front out₀ (bytesOf (k .sent)) (omega (arith, long, room)))
         ∙ ap (leftBy out₀) (sym (settled ks cs (length out₀) here (lettersLeft j h) e v) ∙ k .going)
 
     low-is : process Low here ≡ processOf (j .keys) h Low
@@ -220,7 +216,7 @@ module _ {j : StoredJob} (ok : Ready j) where
               memory =
                   t .memory
                   ∙ ap₂ (λ (m : List ℕ) (n : ℕ). placed m n (bytesOf (t .new))) (k .memory) (long ∙ sym (zero-add (length (bytesOf (k .sent)))))
-                  ∙ placed-append out₀ 0 (bytesOf (k .sent)) (omega (arith, long, room)) (bytesOf (t .new))
+                  ∙ placed-append out₀ 0 (bytesOf (k .sent)) (bytesOf (t .new))
                   ∙ ap (placed out₀ 0) (sym (bytes-append (k .sent) (t .new)));
             }
 

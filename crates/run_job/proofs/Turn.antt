@@ -23,8 +23,10 @@ use Rattle.model.proofs.Turn.{Alone, idlesAt, callAt, turn-alone, turn-idle, tu
 use Rattle.run_step.proofs.Laws.{changedBy, changed-is}
 use Rattle.run_message.specs.Message.{receivedBy}
 use Rattle.run_message.proofs.Laws.{held-set, held-same}
-use Rattle.write_line.specs.{Placed.placed, Line.columnsIn, Line.lineOf}
-use Rattle.write_line.proofs.{Places.placed-nil, Laws.held-at}
+use Rattle.model.specs.Placed.{placed}
+use Rattle.write_line.specs.Line.{columnsIn, lineOf}
+use Rattle.model.proofs.Placed.{placed-nil}
+use Rattle.write_line.proofs.Laws.{held-at}
 use Rattle.run_job.specs.{Held.Held, Held.recordOf, Held.withRecord, Held.withMessage, Held.withTaken, Held.withBytes, Held.withClock, Held.processOf}
 use Rattle.run_job.specs.{Held.stateOf, Turn.Turned}
 use Rattle.run_job.proofs.Views.{commandAt, Ready, keys-count, program-count, lines-count, command-is, operands-at, received-is}

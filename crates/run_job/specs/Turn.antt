@@ -5,7 +5,7 @@ use mathlib.Core.List.{List, [], _∷_, _++_}
 use lib.ListN.{length, drop}
 use Rattle.model.specs.{State.Sent, Stored.jobOf, Line.bytesOf, Verdict.Verdict, Verdict.GoesOn, Verdict.Ends, Verdict.verdict, Run.turn}
 use Rattle.model.specs.declared.{Level.Level, StoredJob.StoredJob}
-use Rattle.write_line.specs.Placed.{placed}
+use Rattle.model.specs.Placed.{placed}
 use Rattle.run_job.specs.Held.{Held, stateOf}
 
 -- The turn of a level: from what was held and the memory m to what is held then and the memory m′. The lines sent before are any list: the turn

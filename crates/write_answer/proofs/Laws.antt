@@ -3,11 +3,11 @@ use Prim.Native.Nat.{ℕ, _+_, _*_, _≤_, _<_}
 use native.Mathlib.{Omega.arith, Numerals.add-one}
 use mathlib.Core.Path.{_≡_, refl, sym, ap, ap₂, _∙_}
 use mathlib.Core.List.{List, [], _∷_, _++_, append-assoc, append-nil}
-use lib.{ListN.length, ListN.getD, ListN.take, ListN.drop, ListN.length-append, ListN.length-drop, ListN.drop-of-length-le, Seq.sets, Seq.sets-eq, Seq.take-at}
-use lib.{Seq.drop-append-add, Seq.drop-drop, Seq.take-suc, Seq.take-all, Seq.length-take-le}
-use Rattle.model.specs.Answer.{le32, allLe32}
+use lib.{ListN.length, ListN.getD, ListN.take, ListN.length-append, Seq.take-suc, Seq.take-all, Seq.length-take-le}
+use Rattle.model.specs.{Placed.placed, Answer.le32, Answer.allLe32, Answer.bytesFor}
+use Rattle.model.proofs.Placed.{placed-append, placed-front, front-whole}
 
-pub le32-length : (n : ℕ) → length (le32 n) ≡ 4
+le32-length : (n : ℕ) → length (le32 n) ≡ 4
 unfolding le32
 le32-length n = refl
 
@@ -21,33 +21,23 @@ unfolding allLe32
 all-length [] = refl
 all-length (n ∷ ns) = omega (arith, length-append (le32 n) (allLe32 ns), le32-length n, all-length ns)
 
--- one number more, behind the bytes p that are stored already
-put-next : (p d : List ℕ) (x : ℕ) → length p + 4 ≤ length d
-    → sets (p ++ drop (length p) d) (length p) (le32 x) ≡ (p ++ le32 x) ++ drop (length p + 4) d
-unfolding le32
-put-next p d x h =
-    sets-eq (le32 x) (p ++ drop (length p) d) (length p) (simp (length-append, length-drop) (omega arith))
-    ∙ ap (λ (t : List ℕ). t ++ le32 x ++ drop (length p + 4) (p ++ drop (length p) d)) (take-at p (drop (length p) d) (length p) refl)
-    ∙ ap (λ (t : List ℕ). p ++ le32 x ++ t) (drop-append-add p (drop (length p) d) 4 ∙ drop-drop 4 (length p) d)
+-- one number more behind the first i
+pub put-again : (ns d : List ℕ) (i : ℕ) → i < length ns → (m m′ : List ℕ) → m ≡ placed d 0 (allLe32 (take i ns)) → m′ ≡ placed m (4 * i) (le32 (getD ns i 0))
+    → m′ ≡ placed d 0 (allLe32 (take (i + 1) ns))
+put-again ns d i h m m′ em em′ =
+    let p : List ℕ = allLe32 (take i ns) in
+    let x : List ℕ = le32 (getD ns i 0) in
+    let behind : 4 * i ≡ 0 + length p = omega (arith, all-length (take i ns), length-take-le i ns (omega arith)) in
+    let more : take i ns ++ (getD ns i 0 ∷ []) ≡ take (i + 1) ns = sym (take-suc ns i 0 h) ∙ ap (λ (n : ℕ). take n ns) (sym (add-one i)) in
+    em′
+    ∙ ap₂ (λ (l : List ℕ) (q : ℕ). placed l q x) em behind
+    ∙ placed-append d 0 p x
+    ∙ ap (placed d 0) (sym (all-append (take i ns) (getD ns i 0)) ∙ ap allLe32 more)
 
-module _ (ns d : List ℕ) (i : ℕ) (h : i < length ns) (room : 4 * length ns ≤ length d) where
-  stored-length : length (allLe32 (take i ns)) ≡ 4 * i
-  stored-length = all-length (take i ns) ∙ ap (λ (n : ℕ). 4 * n) (length-take-le i ns (omega arith))
-
-  pub put-again : (m m′ : List ℕ) → m ≡ allLe32 (take i ns) ++ drop (4 * i) d → m′ ≡ sets m (4 * i) (le32 (getD ns i 0)) → m′ ≡ allLe32 (take (i + 1) ns) ++ drop (4 * (i + 1)) d
-  put-again m m′ em em′ =
-      let p : List ℕ = allLe32 (take i ns) in
-      let l : length p ≡ 4 * i = stored-length in
-      let four : length p + 4 ≡ 4 * (i + 1) = omega arith in
-      let whole : p ++ le32 (getD ns i 0) ≡ allLe32 (take (i + 1) ns) =
-      sym (all-append (take i ns) (getD ns i 0)) ∙ ap allLe32 (sym (take-suc ns i 0 h) ∙ ap (λ (n : ℕ). take n ns) (sym (add-one i))) in
-      em′
-      ∙ ap₂ (λ (t : List ℕ) (n : ℕ). sets t n (le32 (getD ns i 0))) (em ∙ ap (λ (n : ℕ). p ++ drop n d) (sym l)) (sym l)
-      ∙ put-next p d (getD ns i 0) (omega arith)
-      ∙ ap₂ (λ (t : List ℕ) (n : ℕ). t ++ drop n d) whole four
-
-pub put-done : (ns d m : List ℕ) (i : ℕ) → i ≡ length ns → length d ≡ 4 * length ns → m ≡ allLe32 (take i ns) ++ drop (4 * i) d → m ≡ allLe32 ns
-put-done ns d m i e size em =
+pub put-done : (ns d m : List ℕ) (i : ℕ) → length ns ≤ i → length d ≡ bytesFor (length ns) → m ≡ placed d 0 (allLe32 (take i ns)) → m ≡ allLe32 ns
+put-done ns d m i end size em =
+    let l = all-length ns in
     em
-    ∙ ap₂ (λ (t u : List ℕ). allLe32 t ++ u) (take-all i ns (omega arith)) (drop-of-length-le d {i = 4 * i} (omega arith))
-    ∙ append-nil (allLe32 ns)
+    ∙ ap (λ (t : List ℕ). placed d 0 (allLe32 t)) (take-all i ns end)
+    ∙ placed-front d (allLe32 ns) (omega arith)
+    ∙ front-whole d (allLe32 ns) (omega arith)

@@ -1,4 +1,3 @@
 -- The laws of what is written into a memory.
 pub mod Signs
-pub mod Places
 pub mod Laws

@@ -3,38 +3,19 @@ use model::Entry;
 use model::Field;
 use model::Key;
 use model::KeySlot;
+use write_text::magnitude;
+use write_text::spell;
 ghost use mathlib.Core.Path.{_≡_};
 ghost use mathlib.Core.List.{_∷_};
 ghost use Prim.Native.Nat.{_+_, _*_, _≤_, _<_};
 ghost use lib.{ListN.length, ListN.set, ListN.replicate, IntN.natAbs};
-ghost use Rattle.model.specs.{Text.lineFeed, Text.space, Text.dot, Message.source, Line.digits, Line.sign as Output·sign, Line.cell as Output·cell};
+ghost use Rattle.model.specs.{Text.lineFeed, Text.space, Text.dot, Message.source, Decimal.digits, Placed.placed, Line.sign as Output·sign, Line.cell as Output·cell};
 ghost use Rattle.model.specs.{Line.heading as Output·heading, Stored.side, Stored.keyCapacity};
-ghost use Rattle.write_line.specs.Placed.{placed};
 
 fn sign(x: i32) -> u8
     ensures { λ r. ⌜ r ≡ Output·sign x ⌝ }
 {
     if x < 0 { b'-' } else { b'+' }
-}
-
-fn magnitude(x: i32) -> u32
-    ensures { λ r. ⌜ r ≡ natAbs x ⌝ }
-{
-    if x < 0 { (-1 - x) as u32 + 1 } else { x as u32 }
-}
-
-// Puts the last width digits of n at the place at of out.
-fn spell(out: &mut [u8], at: usize, width: usize, n: u32)
-    requires { ⌜ at + width ≤ length (now out) ⌝ }
-    ensures { λ _. ⌜ now (out .exit) ≡ placed (now (out .entry)) at (digits width n) ⌝ }
-{
-    let mut i: usize = width;
-    let mut rest = n;
-    while i > 0 {
-        i -= 1;
-        out[at + i] = b'0' + (rest % 10) as u8;
-        rest /= 10;
-    }
 }
 
 // A sign and ten digits.

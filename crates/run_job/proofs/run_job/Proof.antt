@@ -231,7 +231,7 @@ loop3-again c =
     let w = c .before .before in
     let i = w .before .before .before .before in
     let at = i .before in
-    write-more (ready (sentFrom at)) (at .loop3 .inv) (i .loop3-test .taken) (omega (arith, room-now (roomOf at), headedOf at .heading .kept .0)) _ (w .key-cell .kept .0) (w .key-cell .ensures)
+    write-more (ready (sentFrom at)) (at .loop3 .inv) (i .loop3-test .taken) _ (w .key-cell .kept .0) (w .key-cell .ensures)
 
 -- the line stands: its heading, its cells, its line feed
 abbrev cellsOf : tie.After-ticked2 Inv-loop2 μ-loop2 Inv-loop3 μ-loop3 Inv-loop μ-loop → tie.After-loop3 Inv-loop2 μ-loop2 Inv-loop3 μ-loop3 Inv-loop μ-loop
@@ -252,7 +252,7 @@ after-send c =
     goes-on low (call-send e) (short-sends _ _ ∙ le-ltb _ _ (roomOf at .if3 .left))
     (send-turn (ready l) (l .loop .inv .kept .sent) (heldAt l) (l .loop .inv .live) (c .ticked2 .result) (c .ticked2 .ensures) (c .before .called2 .result) (c .before .called2 .ensures)
     (call-send e) (10 + 12 * jobOf l .keys) refl _ _
-    (write-done (ready l) (at .loop3 .inv) (cellsOf c .loop3-test .left) (l .loop .out) (l .loop .clock .positions) (room-now (roomOf at)) (headedOf at .heading .ensures)
+    (write-done (ready l) (at .loop3 .inv) (cellsOf c .loop3-test .left) (l .loop .out) (l .loop .clock .positions) (headedOf at .heading .ensures)
     _ (c .before .before .before .before .line-end .ensures)))
 
 -- a command that is no call

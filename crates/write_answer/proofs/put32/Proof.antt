@@ -4,12 +4,12 @@ use Prim.Native.Nat.{suc, _+_}
 use native.Mathlib.Omega.{arith}
 use lib.ListN.{length-set}
 use borrow.Author.Needs.{needs}
-use Rattle.model.specs.Answer.{le32}
+use Rattle.model.specs.{Placed.placed, Answer.le32}
 use Rattle.write_answer.proofs.put32.Statement.{statement}
 use Rattle.write_answer.proofs.put32.Tie as tie
 
 returns : tie.Need-returns
-unfolding le32
+unfolding le32 placed
 returns c =
     let e1 : c .args .at + 1 ≡ suc (c .args .at) = omega arith in
     let e2 : c .args .at + 2 ≡ suc (suc (c .args .at)) = omega arith in

@@ -2,9 +2,9 @@
 use mathlib.Core.Path.{sym, ap, _∙_}
 use lib.IntN.{ℤ, natAbs}
 use Rattle.model.specs.declared.Entry.{Entry}
-use Rattle.write_line.specs.Placed.{placed}
+use Rattle.model.specs.Placed.{placed}
 use mathlib.Core.List.{_∷_}
-use Rattle.model.specs.Line.{cell, sign, digits}
+use Rattle.model.specs.{Decimal.digits, Line.cell, Line.sign}
 use borrow.Author.Needs.{needs}
 use Rattle.write_line.proofs.cell.Statement.{statement}
 use Rattle.write_line.proofs.cell.Tie as tie

@@ -4,7 +4,7 @@ use mathlib.Core.Path.{_≡_, refl, sym, _∙_}
 use native.Mathlib.Omega.{arith}
 use lib.ListN.{length, replicate, length-set}
 use Rattle.model.specs.Text.{dot}
-use Rattle.write_line.specs.Placed.{placed}
+use Rattle.model.specs.Placed.{placed}
 use Rattle.write_line.proofs.Laws.{dots-turn, dots-end}
 use Rattle.write_line.proofs.dots.Statement.{statement}
 use Rattle.write_line.proofs.dots.Tie as tie
@@ -21,7 +21,7 @@ loop-holds c = (refl, refl, refl)
 loop-again : tie.Need-loop-again Inv-loop μ-loop
 loop-again c =
     let l = c .before .loop in
-    (simp length-set (l .inv .0), omega arith, dots-turn (l .out) (l .p) (l .more) (omega arith) (omega arith) ∙ l .inv .2)
+    (simp length-set (l .inv .0), omega arith, dots-turn (l .out) (l .p) (l .more) (omega arith) ∙ l .inv .2)
 
 same-length : tie.Need-same-length Inv-loop μ-loop
 same-length c = c .before .loop .inv .0

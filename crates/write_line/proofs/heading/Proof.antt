@@ -13,7 +13,7 @@ same-length c = c .before .before .spell .kept .0 ∙ simp length-set
 
 returns : tie.Need-returns
 unfolding heading bytes
-returns c = c .before .before .spell .ensures ∙ five-placed _ _ _ _ _ _ _ _ (omega arith)
+returns c = c .before .before .spell .ensures ∙ five-placed _ _ _ _ _ _ _ _
 
 pub heading-spec : {M : Type 1} → statement M
 heading-spec =

@@ -5,7 +5,7 @@ use Prim.Native.Nat.{_+_, _*_}
 use borrow.Author.Needs.{needs}
 use Rattle.model.specs.{Text.space, Line.cell}
 use Rattle.model.specs.declared.Entry.{Entry}
-use Rattle.write_line.specs.Placed.{placed}
+use Rattle.model.specs.Placed.{placed}
 use Rattle.write_line.proofs.key_cell.Statement.{statement}
 use Rattle.write_line.proofs.key_cell.Tie as tie
 

@@ -6,9 +6,9 @@ use mathlib.Core.List.{_∷_}
 use Prim.Native.Nat.{ℕ}
 use lib.{IntN.natAbs, ListN.length-set}
 use mir.{Syntax.w32, Facts.toZ-ofZ}
-use Rattle.model.specs.Line.{digits, sign}
-use Rattle.write_line.specs.Placed.{placed}
-use Rattle.write_line.proofs.Places.{placed-cons}
+use Rattle.model.specs.{Decimal.digits, Line.sign}
+use Rattle.model.specs.Placed.{placed}
+use Rattle.model.proofs.Placed.{placed-cons}
 use Rattle.write_line.proofs.print.Statement.{statement}
 use Rattle.write_line.proofs.print.Tie as tie
 
@@ -24,7 +24,7 @@ returns c =
     let a = s .args in
     let e = toZ-ofZ {w = w32} (s .fits .x) in
     c .before .before .spell .ensures
-    ∙ placed-cons (a .out .now) (a .at) (c .before .before .before .before .before .sign .result) (digits 10 (c .before .before .before .magnitude .result)) (omega arith)
+    ∙ placed-cons (a .out .now) (a .at) (c .before .before .before .before .before .sign .result) (digits 10 (c .before .before .before .magnitude .result))
     ∙ ap (λ (v : ℕ). placed (a .out .now) (a .at) (v ∷ digits 10 (c .before .before .before .magnitude .result))) (c .before .before .before .before .before .sign .ensures ∙ ap sign e)
     ∙ ap (λ (v : ℕ). placed (a .out .now) (a .at) (sign (a .x) ∷ digits 10 v)) (c .before .before .before .magnitude .ensures ∙ ap natAbs e)
 

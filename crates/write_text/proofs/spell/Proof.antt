@@ -4,11 +4,10 @@ use mathlib.Core.Path.{_≡_, refl, sym, ap, _∙_}
 use mathlib.Core.List.{List, [], _∷_, _++_}
 use Prim.Native.Nat.{ℕ, zero, suc, _+_, _-_, _/_, _%_, _≤_, _<_}
 use lib.{ListN.length, ListN.take, ListN.drop, ListN.set, ListN.length-set, ListN.take-append-drop, Seq.take-set-le, Seq.append-snoc}
-use Rattle.model.specs.{Text.zeroDigit, Line.digits}
-use Rattle.write_line.specs.Placed.{placed}
-use Rattle.model.proofs.Line.{digits-length}
-use Rattle.write_line.proofs.spell.Statement.{statement}
-use Rattle.write_line.proofs.spell.Tie as tie
+use Rattle.model.specs.{Text.zeroDigit, Decimal.digits}
+use Rattle.model.proofs.{Placed.placed-between, Line.digits-length}
+use Rattle.write_text.proofs.spell.Statement.{statement}
+use Rattle.write_text.proofs.spell.Tie as tie
 
 -- out once the last i digits of rest are written at at
 abbrev todo : ℕ → List ℕ → ℕ → ℕ → List ℕ
@@ -48,17 +47,19 @@ same-length : tie.Need-same-length Inv-loop μ-loop
 same-length c = c .before .loop .inv .0
 
 returns : tie.Need-returns Inv-loop μ-loop
-unfolding placed digits
+unfolding digits
 returns c =
     let l = c .before .loop in
     let a = c .before .before .args in
     let at = a .at in
     let none : l .i ≡ 0 = omega arith in
+    let size = digits-length (a .width) (a .n) in
     sym (take-append-drop at (l .out))
     ∙ ap (λ (m : ℕ). take at (l .out) ++ drop m (l .out)) (sym (add-zero at))
     ∙ ap (λ (m : ℕ). todo at (l .out) m (l .rest)) (sym none)
     ∙ l .inv .2
-    ∙ ap (λ (m : ℕ). take at (a .out .now) ++ (digits (a .width) (a .n) ++ drop (at + m) (a .out .now))) (sym (digits-length (a .width) (a .n)))
+    ∙ ap (λ (m : ℕ). take at (a .out .now) ++ (digits (a .width) (a .n) ++ drop (at + m) (a .out .now))) (sym size)
+    ∙ sym (placed-between (a .out .now) at (digits (a .width) (a .n)) (omega arith))
 
 pub spell-spec : {M : Type 1} → statement M
 spell-spec =

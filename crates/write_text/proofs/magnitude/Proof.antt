@@ -5,9 +5,9 @@ use native.Mathlib.Omega.{arith}
 use borrow.Author.Needs.{needs}
 use lib.{IntN.pos, IntN.negsuc, IntN.natAbs, IntN._-ℤ_, Signed.mag}
 use mir.{Syntax.w32, Val.toZ, Val.ofZ, Facts.toZ-ofZ, Facts.fits-natAbs}
-use Rattle.write_line.proofs.Signs.{below-one, notneg}
-use Rattle.write_line.proofs.magnitude.Statement.{statement}
-use Rattle.write_line.proofs.magnitude.Tie as tie
+use Rattle.write_text.proofs.Signs.{below-one, notneg}
+use Rattle.write_text.proofs.magnitude.Statement.{statement}
+use Rattle.write_text.proofs.magnitude.Tie as tie
 
 -- the machine reads x back from its bits
 back : (s : tie.Start) → toZ w32 (ofZ w32 (s .args .x)) ≡ s .args .x

@@ -1,0 +1,15 @@
+-- A text put into lent memory.
+use Prim.Native.Nat.{ℕ, _+_, _<_}
+use mathlib.Core.Path.{_≡_}
+use mathlib.Core.List.{List}
+use lib.ListN.{length}
+use Rattle.model.specs.Placed.{placed}
+
+-- The memory d with the text s from the place at on is d′, and behind is the place behind the text, whether or not the memory reaches so far
+pub record Put (d : List ℕ) (at : ℕ) (s d′ : List ℕ) (behind : ℕ) : Type 0 where
+  pub memory : d′ ≡ placed d at s
+  pub next : behind ≡ at + length s
+
+-- the place behind a text is a number of 32 bits
+abbrev pub Near : ℕ → List ℕ → Type 0
+Near at s = at + length s < 4294967296

@@ -1,0 +1,93 @@
+// Texts in lent memory: digits, bytes, words and numbers, each stored from a place on.
+//
+// What begins with `put` stores nothing where the memory ends, and gives the place behind its text all the same: put into no memory at all, a text is
+// counted. So one function both tells a text's length and writes it.
+ghost use mathlib.Core.Path.{_≡_};
+ghost use mathlib.Core.List.{[], _∷_};
+ghost use Prim.Native.Nat.{_+_, _≤_};
+ghost use lib.{ListN.length, IntN.natAbs};
+ghost use Rattle.model.specs.{Placed.placed, Decimal.digits, Decimal.width, Decimal.natural, Decimal.whole};
+ghost use Rattle.write_text.specs.Put.{Put, Near};
+
+// The digits of the longest number of 32 bits.
+const MOST_DIGITS: usize = 10;
+
+pub fn magnitude(x: i32) -> u32
+    ensures { λ r. ⌜ r ≡ natAbs x ⌝ }
+{
+    if x < 0 { (-1 - x) as u32 + 1 } else { x as u32 }
+}
+
+// Puts the last width digits of n at the place at of out.
+pub fn spell(out: &mut [u8], at: usize, width: usize, n: u32)
+    requires { ⌜ at + width ≤ length (now out) ⌝ }
+    ensures { λ _. ⌜ now (out .exit) ≡ placed (now (out .entry)) at (digits width n) ⌝ }
+{
+    let mut i: usize = width;
+    let mut rest = n;
+    while i > 0 {
+        i -= 1;
+        out[at + i] = b'0' + (rest % 10) as u8;
+        rest /= 10;
+    }
+}
+
+// How many digits a number has.
+fn width_of(n: u32) -> usize
+    ensures { λ r. ⌜ r ≡ width n ⌝ }
+{
+    let mut w: usize = 1;
+    let mut rest = n;
+    while rest > 9 {
+        rest /= 10;
+        w += 1;
+    }
+    w
+}
+
+pub fn put_byte(out: &mut [u8], at: usize, b: u8) -> usize
+    requires { ⌜ Near at (b ∷ []) ⌝ }
+    ensures { λ r. ⌜ Put (now (out .entry)) at (b ∷ []) (now (out .exit)) r ⌝ }
+{
+    let next = at + 1;
+    if at < out.len() {
+        out[at] = b;
+    }
+    next
+}
+
+pub fn put_word(out: &mut [u8], at: usize, word: &[u8]) -> usize
+    requires { ⌜ Near at (now word) ⌝ }
+    ensures { λ r. ⌜ Put (now (out .entry)) at (now (word .entry)) (now (out .exit)) r ⌝ }
+{
+    let mut i: usize = 0;
+    while i < word.len() {
+        put_byte(out, at + i, word[i]);
+        i += 1;
+    }
+    at + i
+}
+
+// A number at its natural width: its digits are made apart, from the last one on.
+pub fn put_natural(out: &mut [u8], at: usize, n: u32) -> usize
+    requires { ⌜ Near at (natural n) ⌝ }
+    ensures { λ r. ⌜ Put (now (out .entry)) at (natural n) (now (out .exit)) r ⌝ }
+{
+    let mut text = [0u8; MOST_DIGITS];
+    let w = width_of(n);
+    spell(&mut text, 0, w, n);
+    put_word(out, at, &text[..w])
+}
+
+// A number of the full range: a minus sign before a negative one, and no plus sign.
+pub fn put_whole(out: &mut [u8], at: usize, x: i32) -> usize
+    requires { ⌜ Near at (whole x) ⌝ }
+    ensures { λ r. ⌜ Put (now (out .entry)) at (whole x) (now (out .exit)) r ⌝ }
+{
+    let n = magnitude(x);
+    if x < 0 {
+        let next = put_byte(out, at, b'-');
+        return put_natural(out, next, n);
+    }
+    put_natural(out, at, n)
+}
