@@ -44,12 +44,12 @@ module _ {A : Type 0} (P : A → Type 0) where
   every-at (x ∷ xs) zero d h b = h .0
   every-at (x ∷ xs) (suc i) d h b = every-at xs i d (h .1) (omega arith)
 
-  every-set : (xs : List A) (i : ℕ) (a : A) → Every P xs → P a → Every P (set xs i a)
+  pub every-set : (xs : List A) (i : ℕ) (a : A) → Every P xs → P a → Every P (set xs i a)
   every-set [] i a h p = tt
   every-set (x ∷ xs) zero a h p = (p, h .1)
   every-set (x ∷ xs) (suc i) a h p = (h .0, every-set xs i a (h .1) p)
 
-  every-replicate : (n : ℕ) (a : A) → P a → Every P (replicate n a)
+  pub every-replicate : (n : ℕ) (a : A) → P a → Every P (replicate n a)
   every-replicate zero a p = tt
   every-replicate (suc n) a p = (p, every-replicate n a p)
 
@@ -120,6 +120,9 @@ up-to-bound m n s e = subst (GotOf (λ x. x ≤ m)) e (upTo-ok m s)
 
 pub from-one-bound : (m n : ℕ) (s : List ℕ) → fromOne m s ≡ got n → (1 ≤ n) × (n ≤ m)
 from-one-bound m n s e = subst (GotOf (Positive m)) e (fromOne-ok m s)
+
+pub number-range : (s : List ℕ) (z : ℤ) → number s ≡ got z → InRange z
+number-range s z e = subst (GotOf InRange) e (number-ok s)
 
 -- ---- `key:value`
 

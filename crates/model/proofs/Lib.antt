@@ -1,5 +1,7 @@
 -- The proofs about the model.
+pub mod Parsed
 pub mod Placed
+pub mod Decimal
 pub mod Examples
 pub mod Variables
 pub mod Stored

@@ -7,8 +7,7 @@ use native.Mathlib.{Omega.arith, Decide.decLe}
 use lib.ListN.{length}
 use borrow.Author.Tests.{le-leb, lt-leb}
 use Rattle.model.specs.{Placed.front, Written.Draft, Written.text, Written.refused, Written.Written, Written.written, Written.untouched, Written.write}
-use Rattle.model.specs.Written.{Writes, AlwaysWrites}
-use Rattle.model.specs.Data.{TextAnswer}
+use Rattle.model.specs.Written.{AlwaysWrites}
 use Rattle.model.proofs.Placed.{front-length}
 
 pub write-refused : (short : ℕ) (m : List ℕ) (n l : ℕ) → write short m (refused n l) ≡ untouched n l m

@@ -49,12 +49,7 @@ textEntry m a w = entered textNumberCount m a (answered (textNumbers (w .answer)
 
 -- ---- What is claimed of it
 
--- whether a draft says anything of the memory
-abbrev pub Refuses : Draft → Type 0
-Refuses (text s) = ⊥
-Refuses (refused n l) = n ≢ 0
-
--- Know the length, then write, or refuse and write nothing: of every draft whose refusal has a number, with any number for a memory that is too short.
+-- Know the length, then write, or refuse and write nothing: of every draft, with any number for a memory that is too short.
 pub record Writes (short : ℕ) (m : List ℕ) (d : Draft) : Type 0 where
   -- a refusal, for whatever cause, leaves every byte and counts none
   pub refuses : write short m d .answer .number ≢ 0 → (write short m d .memory ≡ m) × (write short m d .answer .bytes ≡ 0)

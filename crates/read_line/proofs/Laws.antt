@@ -8,6 +8,7 @@ use lib.{ListN.length, ListN.take, ListN.drop, ListN.set, ListN.length-append, L
 use Rattle.model.specs.{Parsed.Parsed, Parsed.got, Parsed.refused, Parsed._>>=_, Text.find, Text.lines, Text.equalsSign, Text.lineFeed, Phase.after, Phase.one}
 use Rattle.model.specs.{Phase.many, Phase.oneMore, Phase.numbered, Phase.onward, Phase.eachLine}
 use Rattle.model.specs.Phase as Model
+use Rattle.model.proofs.Parsed.{never}
 use Rattle.read_text.specs.Text.{starts, Word}
 use Rattle.read_text.proofs.Lines.{more-full, more-bad, more-ok, lines-none, lines-more, line-none, line-first, starts-take, after-named, after-other}
 use Rattle.read_line.specs.Phase.{beside, headed, foundAs, FeedInside, FirstLine, Reads}
@@ -48,9 +49,6 @@ module _ {w p : List ℕ} (W : Word w p) (t : List ℕ) where
 inside : {A : Type 0} {a b : A} → _≡_ {A = Parsed A} (got a) (got b) → a ≡ b
 inside e = cc
 
-never : {A B : Type 0} {a : A} {n : ℕ} → _≡_ {A = Parsed A} (got a) (refused n) → B
-never e = absurd (let z : _≡_ {A = ℕ} 0 1 = cc in omega arith)
-
 module _ {A : Type 0} (w : List ℕ) (n : ℕ) where
   one-none : (f : List ℕ → Parsed A) (ls : List (List ℕ)) → headed w ls ≡ refused 3 → one w f n ls ≡ Model.refused 3 n
   unfolding headed one
@@ -58,17 +56,17 @@ module _ {A : Type 0} (w : List ℕ) (n : ℕ) where
   one-none f (l ∷ ls) h = go (after w l) h
     where
       go : (x : Parsed (List ℕ)) → (x >>= beside ls) ≡ refused 3 → numbered n ls (x >>= f) ≡ Model.refused 3 n
-      go (got v) e = never e
+      go (got v) e = never (sym e)
       go (refused r) e = let q : r ≡ 3 = cc in ap (λ m. Model.refused m n) q
 
   one-line : (f : List ℕ → Parsed A) (ls rest : List (List ℕ)) (v : List ℕ) → headed w ls ≡ got (v, rest) → one w f n ls ≡ numbered n rest (f v)
   unfolding headed one
-  one-line f [] rest v h = never (sym h)
+  one-line f [] rest v h = never h
   one-line f (l ∷ ls) rest v h = go (after w l) h
     where
       go : (x : Parsed (List ℕ)) → (x >>= beside ls) ≡ got (v, rest) → numbered n ls (x >>= f) ≡ numbered n rest (f v)
       go (got u) e = ap (λ (x : List ℕ × List (List ℕ)). numbered n (x .1) (f (x .0))) (inside e)
-      go (refused r) e = never (sym e)
+      go (refused r) e = never e
 
   many-none : (F : A → List ℕ → Parsed A) (x : A) (ls : List (List ℕ)) → headed w ls ≡ refused 3 → many w F n x ls ≡ Model.got x n ls
   unfolding headed many
@@ -76,17 +74,17 @@ module _ {A : Type 0} (w : List ℕ) (n : ℕ) where
   many-none F x (l ∷ ls) h = go (after w l) h
     where
       go : (y : Parsed (List ℕ)) → (y >>= beside ls) ≡ refused 3 → eachLine n x (l ∷ ls) y (F x) (λ b. many w F (n + 1) b ls) ≡ Model.got x n (l ∷ ls)
-      go (got v) e = never e
+      go (got v) e = never (sym e)
       go (refused r) e = refl
 
   many-line : (F : A → List ℕ → Parsed A) (x : A) (ls rest : List (List ℕ)) (v : List ℕ) → headed w ls ≡ got (v, rest) → many w F n x ls ≡ onward n (F x v) (λ b. many w F (n + 1) b rest)
   unfolding headed many
-  many-line F x [] rest v h = never (sym h)
+  many-line F x [] rest v h = never h
   many-line F x (l ∷ ls) rest v h = go (after w l) h
     where
       go : (y : Parsed (List ℕ)) → (y >>= beside ls) ≡ got (v, rest) → eachLine n x (l ∷ ls) y (F x) (λ b. many w F (n + 1) b ls) ≡ onward n (F x v) (λ b. many w F (n + 1) b rest)
       go (got u) e = ap (λ (y : List ℕ × List (List ℕ)). onward n (F x (y .0)) (λ b. many w F (n + 1) b (y .1))) (inside e)
-      go (refused r) e = never (sym e)
+      go (refused r) e = never e
 
 -- where a line of the name ends
 pub feed-inside : {p t : List ℕ} {r : Found} {v e : ℕ} → FirstLine p t r → r ≡ At v e → (v ≤ e) × (e < length t)
@@ -148,7 +146,7 @@ module _ {A : Type 0} {w : List ℕ} {F : A → List ℕ → Parsed A} {start : 
 pub map-more : {A B : Type 0} (f : A → B) (n : ℕ) (xs : List A) (x : A) → n < length xs → map f (take (n + 1) (set xs n x)) ≡ map f (take n xs) ++ (f x ∷ [])
 map-more f n xs x h = rw (add-one, take-suc-set xs n x h) (map-append f (take n xs) (x ∷ []))
 
-module _ {A B : Type 0} (f : A → B) (m : ℕ) (read : List ℕ → Parsed B) (n : ℕ) (xs : List A) (v : List ℕ) where
+module _ {A B C : Type 0} (f : A → B) (m : ℕ) (read : C → Parsed B) (n : ℕ) (xs : List A) (v : C) where
   shown : n ≤ length xs → length (map f (take n xs)) ≡ n
   shown h = length-map (take n xs) f ∙ length-take-le n xs h
 

@@ -3,12 +3,12 @@ use mathlib.Core.Path.{_≡_, refl, _∙_}
 use mathlib.Core.List.{List, [], _∷_}
 use Prim.Native.Nat.{ℕ, _+_, _<_, _≤_}
 use native.Mathlib.Omega.{arith}
-use lib.{IntN.ℤ, ListN.length, ListN.take, ListN.drop, ListN.set, Seq.take-all, Seq.drop-drop}
+use lib.{IntN.ℤ, ListN.length, ListN.take, ListN.drop, ListN.set}
 use Rattle.model.specs.{Parsed.got, Parsed.refused, Text.bytes, Text.comma, Text.find, Text.split, Pair.ByKey, Pair.pair, Messages.allAbsent, Messages.parts, Text.free}
 use Rattle.model.specs.{Messages.message, Messages.messageLine, Stored.entryIn, Stored.firstOf}
 use Rattle.model.specs.declared.{Entry.Entry, Entry.the-variants.Number, EntrySlot.EntrySlot}
 use Rattle.read_text.specs.Text.{Word}
-use Rattle.read_text.proofs.Lines.{split-end, split-at, split-first}
+use Rattle.read_text.proofs.Lines.{parts-some, parts-last, parts-more}
 use Rattle.read_pair.specs.Pair.{byKey}
 use Rattle.read_pair.proofs.Laws.{part-bad, part-ok}
 
@@ -55,13 +55,11 @@ module _ (K : ℕ) (some : 1 ≤ K) (next : ℕ) (slots : List EntrySlot) (s t :
 
   pub turn-bad : (r : ℕ) → pair K next (take e t) ≡ refused r → parts K before (split comma (drop a s)) ≡ refused r
   unfolding parts
-  turn-bad r h = let f = split-first comma t e q in rw (← g, f .1, part-bad entryIn Number K next slots (take e t) r h)
+  turn-bad r h = let f = parts-some comma s t a e g q in rw (f .1, part-bad entryIn Number K next slots (take e t) r h)
 
   module _ (k : ℕ) (v : ℤ) (h : pair K next (take e t) ≡ got (k, v)) where
     pub turn-last : length t ≤ e → parts K before (split comma (drop a s)) ≡ got (after k v)
-    turn-last l = rw (← g, split-end comma t e q l) (more t [] k v (rw (take-all e t l) at h) ∙ parts-none K (after k v))
+    turn-last l = rw (parts-last comma s t a e g q l) (more (take e t) [] k v h ∙ parts-none K (after k v))
 
     pub turn-more : e < length t → parts K before (split comma (drop a s)) ≡ parts K (after k v) (split comma (drop (a + e + 1) s))
-    turn-more l =
-        let n : a + e + 1 ≡ a + (e + 1) = omega arith in
-        rw (n, ← (drop-drop (e + 1) a s), ← g, split-at comma t e q l _ refl) (more (take e t) (split comma (drop (e + 1) t)) k v h)
+    turn-more l = rw (parts-more comma s t a e g q l) (more (take e t) (split comma (drop (a + e + 1) s)) k v h)

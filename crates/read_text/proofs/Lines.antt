@@ -4,7 +4,7 @@ use mathlib.Core.Bool.{Bool, true, false, cond, true≢false}
 use mathlib.Core.List.{List, [], _∷_, _++_, append-assoc}
 use Prim.Native.Nat.{ℕ, zero, suc, _+_, _-_, _<_, _≤_}
 use native.Mathlib.{Omega.arith, Decide.decLt}
-use lib.{Dec.eqb, Dec.ltb, ListN.length, ListN.take, ListN.drop, ListN.length-append, Seq.take-all, Seq.take-append-add, Seq.drop-append-add, Seq.take-append-seam}
+use lib.{Dec.eqb, Dec.ltb, ListN.length, ListN.take, ListN.drop, ListN.length-append, Seq.take-all, Seq.take-append-add, Seq.drop-append-add, Seq.take-append-seam, Seq.drop-drop}
 use borrow.Author.Tests.{eq-eqb, eqb-true, lt-ltb, le-ltb}
 use Rattle.model.specs.{Parsed.Parsed, Parsed.got, Parsed.refused, Text.find, Text.divide, Text.split, Text.grow, Text.lines, Text.init, Text.same, Phase.after}
 use Rattle.model.specs.{Text.free, Phase.oneMore}
@@ -67,6 +67,19 @@ module _ (c : ℕ) (t : List ℕ) (f : ℕ) (q : f ≡ find c t) where
       go : Dec (f < length t) → (ps : List (List ℕ)) × (split c t ≡ take f t ∷ ps)
       go (yes h) = (split c (drop (f + 1) t), split-at h _ refl)
       go (no n) = let l : length t ≤ f = omega arith in ([], split-end l ∙ ap (λ (x : List ℕ). x ∷ []) (sym (take-all f t l)))
+
+-- the parts that are left of s from the place a on: t is that text, and e the place of its first c
+module _ (c : ℕ) (s t : List ℕ) (a e : ℕ) (g : t ≡ drop a s) (q : e ≡ find c t) where
+  pub parts-some : (ps : List (List ℕ)) × (split c (drop a s) ≡ take e t ∷ ps)
+  parts-some = let f = split-first c t e q in (f .0, rw (← g) (f .1))
+
+  pub parts-last : length t ≤ e → split c (drop a s) ≡ take e t ∷ []
+  parts-last l = rw (← g, split-end c t e q l, take-all e t l)
+
+  pub parts-more : e < length t → split c (drop a s) ≡ take e t ∷ split c (drop (a + e + 1) s)
+  parts-more l =
+      let n : a + e + 1 ≡ a + (e + 1) = omega arith in
+      rw (n, ← (drop-drop (e + 1) a s), ← g, split-at c t e q l _ refl)
 
 pub lines-none : (t : List ℕ) → length t ≤ find 10 t → lines t ≡ []
 unfolding lines init
@@ -203,7 +216,7 @@ module _ (w t : List ℕ) (f : free 61 w ≡ true) (g : free 10 (w ++ (61 ∷ []
         rw (lines-more t m, p, k, x, y)
 
 -- one line more, with a limit
-module _ {A : Type 0} (m : ℕ) (f : List ℕ → Parsed A) (cs : List A) (v : List ℕ) where
+module _ {A B : Type 0} (m : ℕ) (f : B → Parsed A) (cs : List A) (v : B) where
   pub more-full : m ≤ length cs → oneMore m f cs v ≡ refused 8
   unfolding oneMore
   more-full h = rw (le-ltb _ _ h)

@@ -8,7 +8,7 @@ use borrow.Author.{Needs.needs, Needs.sfits-of, Tests.lt-ltb, Tests.le-ltb}
 use lib.{ListN.length, ListN.getD, ListN.length-set}
 use mir.{Syntax.w32, Val.toZ, Val.ofZ, ValLaws.toZ-ofZ}
 use Rattle.model.specs.{Step.variable, Step.callOf, Step.callsBy, Limits.variables, Stored.keyCapacity, Stored.messageCapacity}
-use Rattle.model.specs.{Stored.levelOf, Line.cells, Accepted.Within, State.ticked, Verdict.short, Verdict.waits, Verdict.verdictBy, Run.runJob, Answer.left}
+use Rattle.model.specs.{Stored.levelOf, Accepted.Within, State.ticked, Verdict.short, Verdict.waits, Verdict.verdictBy, Run.runJob, Answer.left}
 use Rattle.model.specs.{Answer.leftBy}
 use Rattle.model.specs.Stored as Stored
 use Rattle.model.specs.declared.{Call.Call, Level.Level, Execution.Execution, Clock.Clock, StoredJob.StoredJob, Answer.Answer}
