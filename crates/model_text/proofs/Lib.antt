@@ -1,0 +1,10 @@
+-- The laws of the texts that are written: from the bytes of a number up to message lines in a sheet.
+pub mod Bytes
+pub mod Numbers
+pub mod Texts
+pub mod Messages
+pub mod Short
+pub mod Phases
+pub mod Readings
+pub mod Lines
+pub mod Pasted
