@@ -1,3 +1,4 @@
--- The laws of the entry, and the three demands.
+-- The laws of the entries, the three demands, and the claims of Note 1.
 pub mod Laws
 pub mod Demands
+pub mod Log

@@ -3,6 +3,7 @@ use Prim.Native.Nat.{ℕ}
 use mathlib.Core.Path.{_≡_}
 use mathlib.Core.List.{List}
 use Rattle.model.specs.Answer.{After, runEntry}
+use Rattle.model_log.specs.Log.{logEntry}
 
 -- a call that comes to x
 pub record Leaves (x : After) (returned : ℕ) (output′ answer′ : List ℕ) : Type 0 where
@@ -13,3 +14,7 @@ pub record Leaves (x : After) (returned : ℕ) (output′ answer′ : List ℕ) 
 -- `pavebox_run`
 abbrev pub Answered : List ℕ → List ℕ → List ℕ → ℕ → List ℕ → List ℕ → Type 0
 Answered sheet output answer returned output′ answer′ = Leaves (runEntry sheet output answer) returned output′ answer′
+
+-- `pavebox_csv`
+abbrev pub LogAnswered : List ℕ → List ℕ → List ℕ → ℕ → List ℕ → List ℕ → Type 0
+LogAnswered log output answer returned output′ answer′ = Leaves (logEntry log output answer) returned output′ answer′

@@ -1,19 +1,17 @@
 -- A text in two parts is put part by part; the digits of a number are as many as its width.
 use mathlib.Core.Path.{_≡_, refl, sym, ap, ap₂, _∙_}
-use mathlib.Core.Bool.{Bool, true, false, cond, true≢false}
+use mathlib.Core.Logic.{_⊎_, inl, inr, ⊎-elim}
+use mathlib.Core.Bool.{true, false, true≢false}
 use mathlib.Core.List.{List, [], _∷_, _++_}
-use Prim.Native.Nat.{ℕ, zero, suc, _+_, _-_, _*_, _/_, _<_, _≤_}
-use native.Mathlib.{Omega.arith, Nat.add-zero, Nat.zero-add, Numerals.add-one}
-use lib.{ListN.length, ListN.getD, ListN.take, ListN.drop, ListN.set, ListN.length-append, ListN.drop-of-length-le, Seq.set-out, Seq.take-at, Seq.drop-cons}
-use lib.{Dec.ltb, IntN.ℤ, IntN.pos, IntN.negsuc, IntN.natAbs, Signed.ltZ}
+use Prim.Native.Nat.{ℕ, zero, suc, _+_, _*_, _/_, _<_, _≤_}
+use native.Mathlib.{Omega.arith, Decide.decLt, Numerals.add-one}
+use lib.{ListN.length, ListN.getD, ListN.drop, ListN.set, ListN.length-append, ListN.drop-of-length-le, Seq.set-out, Seq.drop-cons, IntN.ℤ, IntN.pos, IntN.negsuc}
+use lib.{IntN.natAbs, Signed.ltZ}
 use borrow.Author.Tests.{ltb-true, lt-ltb, le-ltb}
-use Rattle.model.specs.{Text.minus, Placed.placed, Placed.front, Decimal.digits, Decimal.widthTo, Decimal.width, Decimal.mostDigits, Decimal.natural, Decimal.whole}
-use Rattle.model.proofs.{Placed.placed-nil, Placed.placed-append, Placed.placed-front, Line.digits-length}
-use Rattle.write_text.specs.Put.{Put, Near}
-
--- nothing put
-pub put-nothing : {d : List ℕ} {at : ℕ} → Put d at [] d at
-put-nothing {d} {at} = record { memory = sym (placed-nil d at); next = sym (add-zero at) }
+use Rattle.model.specs.{Text.minus, Placed.placed, Decimal.widthTo, Decimal.width, Decimal.mostDigits, Decimal.natural, Decimal.whole, Written.text, Written.written}
+use Rattle.model.specs.Written.{write}
+use Rattle.model.proofs.{Placed.placed-nil, Placed.placed-append, Placed.placed-length, Placed.placed-front, Decimal.tens, Decimal.tens-last, Decimal.tens-most, Line.digits-length, Written.write-fits}
+use Rattle.write_text.specs.Put.{Put, Room}
 
 -- a text, and another behind it
 pub put-then : {d d′ d″ s t : List ℕ} {at p q : ℕ} → Put d at s d′ p → Put d′ p t d″ q → Put d at (s ++ t) d″ q
@@ -23,93 +21,103 @@ put-then {d} {d′} {d″} {s} {t} {at} {p} {q} h k =
       next = omega (arith, h .next, k .next, length-append s t);
     }
 
--- the place between them, and the places of both parts, are near
-pub near-first : (at : ℕ) (s t : List ℕ) → Near at (s ++ t) → Near at s
-near-first at s t h = omega (arith, length-append s t)
+pub put-length : {d d′ s : List ℕ} {at p : ℕ} → Put d at s d′ p → length d′ ≡ length d
+put-length {d} {d′} {s} {at} h = ap length (h .memory) ∙ placed-length d at s
 
-pub near-next : (at p : ℕ) (s t : List ℕ) → Near at (s ++ t) → p ≡ at + length s → Near p t
-near-next at p s t h e = omega (arith, length-append s t)
+-- there is room for the first part of a text, and behind it for the other
+pub room-first : {d : List ℕ} {at : ℕ} (s t : List ℕ) → Room d at (s ++ t) → Room d at s
+room-first s t r =
+    let l = length-append s t in
+    record { near = omega (arith, r .near); fits = ⊎-elim inl (λ h. inr (omega arith)) (r .fits) }
 
--- one byte, where the memory has its place and where it has not
+pub room-next : {d d′ : List ℕ} {at p : ℕ} (s t : List ℕ) → Room d at (s ++ t) → Put d at s d′ p → Room d′ p t
+room-next s t r h =
+    let l = length-append s t in
+    let n = put-length h in
+    record { near = omega (arith, r .near, h .next); fits = ⊎-elim (λ e. inl (n ∙ e)) (λ e. inr (omega (arith, h .next))) (r .fits) }
+
+-- the memory has room for the whole text from one of its places on
+pub room-inside : {d s : List ℕ} {at : ℕ} → Room d at s → at < length d → at + length s ≤ length d
+room-inside r h = ⊎-elim (λ e. absurd (omega arith)) (λ e. e) (r .fits)
+
+-- a byte at its place, and a text that begins where the memory has ended
 pub put-inside : (d : List ℕ) (at b : ℕ) → Put d at (b ∷ []) (set d at b) (at + 1)
 unfolding placed
 put-inside d at b = record { memory = refl; next = refl }
 
-pub put-outside : (d : List ℕ) (at b : ℕ) → length d ≤ at → Put d at (b ∷ []) d (at + 1)
+placed-outside : (d : List ℕ) (at : ℕ) (s : List ℕ) → length d ≤ at → placed d at s ≡ d
 unfolding placed
-put-outside d at b h = record { memory = sym (set-out d at b h); next = refl }
+placed-outside d at [] h = refl
+placed-outside d at (b ∷ s) h = rw (set-out d at b h) (placed-outside d (suc at) s (omega arith))
+
+pub put-outside : (d : List ℕ) (at : ℕ) (s : List ℕ) (p : ℕ) → length d ≤ at → p ≡ at + length s → Put d at s d p
+put-outside d at s p h e = record { memory = sym (placed-outside d at s h); next = e }
 
 -- ---- The width of a number
 
--- one more than the largest number of f digits
-unfoldable pub ten : ℕ → ℕ
-ten zero = 0
-ten (suc zero) = 10
-ten (suc (suc f)) = ten (suc f) * 10
+-- no number of v digits reaches n, or v is 0
+abbrev Reached : ℕ → ℕ → Type 0
+Reached v n = (v ≡ 0) ⊎ (tens v ≤ n)
 
-ten-last : 4294967296 ≤ ten mostDigits
-unfolding ten
-ten-last = omega arith
-
-ten-next : (f n : ℕ) → n < ten (suc f) → 10 ≤ n → n / 10 < ten f
-unfolding ten
-ten-next zero n h g = absurd (omega arith)
-ten-next (suc f) n h g = omega arith
-
-ten-none : (n : ℕ) → n < ten 0 → ⊥
-unfolding ten
-ten-none n h = omega arith
-
--- w digits of n are counted, of which rest has the first as its last, and left more may come
-pub record Counting (n w rest : ℕ) : Type 0 where
-  pub left : ℕ
-  pub few : w + left ≡ mostDigits
-  pub small : rest < ten (suc left)
-  pub total : w + widthTo (suc left) rest ≡ 1 + width n
-
-pub counting-begins : (n : ℕ) → n < 4294967296 → Counting n 1 n
-unfolding width
-counting-begins n h = record { left = 9; few = refl; small = omega (arith, ten-last); total = refl }
-
-width-more : (f n : ℕ) → 10 ≤ n → widthTo (suc f) n ≡ suc (widthTo f (n / 10))
-unfolding widthTo
-width-more f n h = rw (le-ltb n 10 h)
-
-width-one : (f n : ℕ) → n < 10 → widthTo (suc f) n ≡ 1
-unfolding widthTo
-width-one f n h = rw (lt-ltb n 10 h)
-
-pub counting-again : (n w rest : ℕ) → 10 ≤ rest → Counting n w rest → Counting n (w + 1) (rest / 10)
-counting-again n w rest h c = go (c .left) (c .few) (c .small) (c .total)
+width-is : (v f n : ℕ) → v ≤ f → n < tens (suc v) → Reached v n → widthTo (suc f) n ≡ suc v
+unfolding widthTo tens
+width-is zero f n l h r = rw (lt-ltb n 10 h)
+width-is (suc v) zero n l h r = absurd (omega arith)
+width-is (suc v) (suc f) n l h r =
+    let m = tens-most v in
+    let k : tens (suc v) ≤ n = ⊎-elim (λ e. absurd (omega arith)) (λ e. e) r in
+    let g : 10 ≤ n = omega arith in
+    rw (le-ltb n 10 g) (ap suc (width-is v f (n / 10) (omega arith) (omega arith) (reached v k)))
   where
-    go : (l : ℕ) → w + l ≡ mostDigits → rest < ten (suc l) → w + widthTo (suc l) rest ≡ 1 + width n → Counting n (w + 1) (rest / 10)
-    go zero few small total = absurd (ten-none (rest / 10) (ten-next 0 rest small h))
-    go (suc l) few small total =
-        record { left = l; few = omega arith; small = ten-next (suc l) rest small h; total = omega (arith, width-more (suc l) rest h) }
+    reached : (u : ℕ) → tens (suc u) ≤ n → Reached u (n / 10)
+    reached zero k = inl refl
+    reached (suc u) k = inr (omega arith)
 
-pub counting-ends : (n w rest : ℕ) → rest ≤ 9 → Counting n w rest → w ≡ width n
-counting-ends n w rest h c = omega (arith, c .total, width-one (c .left) rest (omega arith))
+-- n has more than before digits, and above is the least number that has more than one more
+pub record Counting (n w above : ℕ) : Type 0 where
+  pub before : ℕ
+  pub digits : w ≡ suc before
+  pub few : before < mostDigits
+  pub least : above ≡ tens (suc before)
+  pub reached : Reached before n
 
-pub counting-few : (n w rest : ℕ) → Counting n w rest → w ≤ mostDigits
-counting-few n w rest c = omega (arith, c .few)
+pub counting-begins : (n : ℕ) → Counting n 1 10
+unfolding tens
+counting-begins n = record { before = 0; digits = refl; few = omega arith; least = refl; reached = inl refl }
 
-width-most : (f n : ℕ) → widthTo f n ≤ f
-unfolding widthTo
-width-most zero n = omega arith
-width-most (suc f) n = go (ltb n 10) (width-most f (n / 10))
+pub counting-again : (n w above : ℕ) → n < 4294967296 → above ≤ n → Counting n w above → Counting n (w + 1) (above * 10)
+unfolding tens
+counting-again n w above small h c =
+    record {
+      before = suc (c .before);
+      digits = omega (arith, c .digits);
+      few = go (decLt (suc (c .before)) mostDigits);
+      least = ap (λ (x : ℕ). x * 10) (c .least);
+      reached = inr (omega (arith, c .least));
+    }
   where
-    go : (b : Bool) → widthTo f (n / 10) ≤ f → cond b 1 (suc (widthTo f (n / 10))) ≤ suc f
-    go true i = omega arith
-    go false i = omega arith
+    go : Dec (suc (c .before) < mostDigits) → suc (c .before) < mostDigits
+    go (yes l) = l
+    go (no l) =
+        let nine : suc (c .before) ≡ mostDigits = omega (arith, c .few) in
+        absurd (omega (arith, tens-last, c .least, ap tens nine))
 
--- a number of 32 bits has at most ten digits
-pub width-few : (n : ℕ) → width n ≤ mostDigits
+pub counting-ends : (n w above : ℕ) → n < above → Counting n w above → w ≡ width n
 unfolding width
-width-few n = width-most mostDigits n
+counting-ends n w above h c = c .digits ∙ sym (width-is (c .before) 9 n (omega (arith, c .few)) (omega (arith, c .least)) (c .reached))
+
+pub counting-some : (n w above : ℕ) → Counting n w above → 10 ≤ above
+counting-some n w above c = omega (arith, c .least, tens-most (c .before))
+
+pub counting-few : (n w above : ℕ) → Counting n w above → w ≤ mostDigits
+counting-few n w above c = omega (arith, c .digits, c .few)
 
 -- ---- A word, byte by byte
 
 module _ (word : List ℕ) (at i : ℕ) where
+  pub word-room : {d d′ : List ℕ} (b : ℕ) → Room d at word → length d′ ≡ length d → i < length word → Room d′ (at + i) (b ∷ [])
+  word-room b r n h = record { near = omega (arith, r .near); fits = ⊎-elim (λ e. inl (n ∙ e)) (λ e. inr (omega arith)) (r .fits) }
+
   pub word-again : {all : List ℕ} (d d′ : List ℕ) (p : ℕ) → i < length word → Put d (at + i) (getD word i 0 ∷ []) d′ p → placed d (at + i) (drop i word) ≡ all
       → placed d′ (at + (i + 1)) (drop (i + 1) word) ≡ all
   word-again d d′ p h put before =
@@ -125,12 +133,9 @@ module _ (word : List ℕ) (at i : ℕ) where
 
 -- ---- Numbers
 
--- digits made in a memory that has room for them
-pub digits-made : (d : List ℕ) (w n : ℕ) → w ≤ length d → take w (placed d 0 (digits w n)) ≡ digits w n
-unfolding front
-digits-made d w n h =
-    let e = digits-length w n in
-    ap (take w) (placed-front d (digits w n) (omega arith)) ∙ take-at (digits w n) (drop (length (digits w n)) d) w e
+pub natural-length : (n : ℕ) → length (natural n) ≡ width n
+unfolding natural
+natural-length n = digits-length (width n) n
 
 -- a number of the full range, by the sign that the machine finds
 pub whole-neg : (z : ℤ) → ltZ z (pos 0) ≡ true → whole z ≡ (minus ∷ []) ++ natural (natAbs z)
@@ -142,3 +147,40 @@ pub whole-pos : (z : ℤ) → ltZ z (pos 0) ≡ false → whole z ≡ natural (n
 unfolding whole
 whole-pos (pos n) e = refl
 whole-pos (negsuc n) e = absurd (true≢false e)
+
+-- ---- A text of which the rest is still to put
+
+pub record Putting (d : List ℕ) (at : ℕ) (s d′ : List ℕ) (p : ℕ) (rest : List ℕ) : Type 0 where
+  pub memory : placed d′ p rest ≡ placed d at s
+  pub place : p + length rest ≡ at + length s
+
+pub putting-begins : {d s rest : List ℕ} {at : ℕ} → rest ≡ s → Putting d at s d at rest
+putting-begins {d} {s} {rest} {at} e = record { memory = ap (placed d at) e; place = ap (λ (t : List ℕ). at + length t) e }
+
+-- a part of the rest is put
+pub putting-more : {d s d′ d″ : List ℕ} {at p q : ℕ} (t rest : List ℕ) → Putting d at s d′ p (t ++ rest) → Put d′ p t d″ q → Putting d at s d″ q rest
+putting-more {d} {s} {d′} {d″} {at} {p} {q} t rest h k =
+    record {
+      memory = ap₂ (λ (m : List ℕ) (i : ℕ). placed m i rest) (k .memory) (k .next) ∙ placed-append d′ p t rest ∙ h .memory;
+      place = omega (arith, h .place, k .next, length-append t rest);
+    }
+
+-- there is room for it, if there is for the whole
+pub putting-room : {d s d′ : List ℕ} {at p : ℕ} (t rest : List ℕ) → Room d at s → length d′ ≡ length d → Putting d at s d′ p (t ++ rest) → Room d′ p t
+putting-room t rest r n h =
+    let l = length-append t rest in
+    record { near = omega (arith, r .near, h .place); fits = ⊎-elim (λ e. inl (n ∙ e)) (λ e. inr (omega (arith, h .place))) (r .fits) }
+
+-- nothing is left
+pub putting-ends : {d s d′ rest : List ℕ} {at p : ℕ} → rest ≡ [] → Putting d at s d′ p rest → Put d at s d′ p
+putting-ends {d} {s} {d′} {rest} {at} {p} e h =
+    let none : length rest ≡ 0 = ap length e in
+    record { memory = sym (placed-nil d′ p) ∙ ap (placed d′ p) (sym e) ∙ h .memory; next = omega (arith, h .place) }
+
+-- ---- Counted in no memory, then written or refused
+
+pub put-count : {d d′ s : List ℕ} {n : ℕ} → Put d 0 s d′ n → n ≡ length s
+put-count h = omega (arith, h .next)
+
+pub put-written : (short : ℕ) {m m′ s : List ℕ} {n : ℕ} → Put m 0 s m′ n → length s ≤ length m → write short m (text s) ≡ written (record { number = 0; line = 0; bytes = length s }) m′
+put-written short {m} {m′} {s} h fits = write-fits short m s fits ∙ ap (written (record { number = 0; line = 0; bytes = length s })) (sym (h .memory ∙ placed-front m s fits))

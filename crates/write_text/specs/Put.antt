@@ -1,6 +1,6 @@
 -- A text put into lent memory.
-use Prim.Native.Nat.{ℕ, _+_, _<_}
-use mathlib.Core.Path.{_≡_}
+use Prim.Native.Nat.{ℕ, _+_, _<_, _≤_}
+use mathlib.Core.{Path._≡_, Logic._⊎_}
 use mathlib.Core.List.{List}
 use lib.ListN.{length}
 use Rattle.model.specs.Placed.{placed}
@@ -10,6 +10,8 @@ pub record Put (d : List ℕ) (at : ℕ) (s d′ : List ℕ) (behind : ℕ) : Ty
   pub memory : d′ ≡ placed d at s
   pub next : behind ≡ at + length s
 
--- the place behind a text is a number of 32 bits
-abbrev pub Near : ℕ → List ℕ → Type 0
-Near at s = at + length s < 4294967296
+-- A text may be put from the place at on: the place behind it is a number of 32 bits, and the memory is none at all, so that the text is only counted, or has
+-- room for it
+pub record Room (d : List ℕ) (at : ℕ) (s : List ℕ) : Type 0 where
+  pub near : at + length s < 4294967296
+  pub fits : (length d ≡ 0) ⊎ (at + length s ≤ length d)

@@ -1,16 +1,13 @@
 // Texts in lent memory: digits, bytes, words and numbers, each stored from a place on.
 //
-// What begins with `put` stores nothing where the memory ends, and gives the place behind its text all the same: put into no memory at all, a text is
-// counted. So one function both tells a text's length and writes it.
+// What begins with `put` gives the place behind its text. Put into no memory at all, a text is counted and nothing is stored: so one function both tells a
+// text's length and writes it.
 ghost use mathlib.Core.Path.{_≡_};
 ghost use mathlib.Core.List.{[], _∷_};
 ghost use Prim.Native.Nat.{_+_, _≤_};
 ghost use lib.{ListN.length, IntN.natAbs};
 ghost use Rattle.model.specs.{Placed.placed, Decimal.digits, Decimal.width, Decimal.natural, Decimal.whole};
-ghost use Rattle.write_text.specs.Put.{Put, Near};
-
-// The digits of the longest number of 32 bits.
-const MOST_DIGITS: usize = 10;
+ghost use Rattle.write_text.specs.Put.{Put, Room};
 
 pub fn magnitude(x: i32) -> u32
     ensures { λ r. ⌜ r ≡ natAbs x ⌝ }
@@ -32,21 +29,22 @@ pub fn spell(out: &mut [u8], at: usize, width: usize, n: u32)
     }
 }
 
-// How many digits a number has.
+// How many digits a number has: above is the least number that has more than w.
 fn width_of(n: u32) -> usize
     ensures { λ r. ⌜ r ≡ width n ⌝ }
 {
+    let m = n as u64;
     let mut w: usize = 1;
-    let mut rest = n;
-    while rest > 9 {
-        rest /= 10;
+    let mut above: u64 = 10;
+    while above <= m {
+        above *= 10;
         w += 1;
     }
     w
 }
 
 pub fn put_byte(out: &mut [u8], at: usize, b: u8) -> usize
-    requires { ⌜ Near at (b ∷ []) ⌝ }
+    requires { ⌜ Room (now out) at (b ∷ []) ⌝ }
     ensures { λ r. ⌜ Put (now (out .entry)) at (b ∷ []) (now (out .exit)) r ⌝ }
 {
     let next = at + 1;
@@ -57,7 +55,7 @@ pub fn put_byte(out: &mut [u8], at: usize, b: u8) -> usize
 }
 
 pub fn put_word(out: &mut [u8], at: usize, word: &[u8]) -> usize
-    requires { ⌜ Near at (now word) ⌝ }
+    requires { ⌜ Room (now out) at (now word) ⌝ }
     ensures { λ r. ⌜ Put (now (out .entry)) at (now (word .entry)) (now (out .exit)) r ⌝ }
 {
     let mut i: usize = 0;
@@ -68,20 +66,22 @@ pub fn put_word(out: &mut [u8], at: usize, word: &[u8]) -> usize
     at + i
 }
 
-// A number at its natural width: its digits are made apart, from the last one on.
+// A number at its natural width.
 pub fn put_natural(out: &mut [u8], at: usize, n: u32) -> usize
-    requires { ⌜ Near at (natural n) ⌝ }
+    requires { ⌜ Room (now out) at (natural n) ⌝ }
     ensures { λ r. ⌜ Put (now (out .entry)) at (natural n) (now (out .exit)) r ⌝ }
 {
-    let mut text = [0u8; MOST_DIGITS];
     let w = width_of(n);
-    spell(&mut text, 0, w, n);
-    put_word(out, at, &text[..w])
+    let next = at + w;
+    if at < out.len() {
+        spell(out, at, w, n);
+    }
+    next
 }
 
 // A number of the full range: a minus sign before a negative one, and no plus sign.
 pub fn put_whole(out: &mut [u8], at: usize, x: i32) -> usize
-    requires { ⌜ Near at (whole x) ⌝ }
+    requires { ⌜ Room (now out) at (whole x) ⌝ }
     ensures { λ r. ⌜ Put (now (out .entry)) at (whole x) (now (out .exit)) r ⌝ }
 {
     let n = magnitude(x);

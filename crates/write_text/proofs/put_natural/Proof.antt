@@ -1,40 +1,30 @@
--- The digits that are made apart are the number's.
-use mathlib.Core.Path.{_≡_, sym, ap, ap₂, subst, _∙_}
-use mathlib.Core.List.{List}
-use Prim.Native.Nat.{ℕ, _≤_}
+-- The digits where the memory has room for them, and nothing where there is none.
+use mathlib.Core.Path.{_≡_, ap, _∙_}
+use Prim.Native.Nat.{ℕ, _+_}
 use native.Mathlib.Omega.{arith}
 use borrow.Author.Needs.{needs}
-use lib.{ListN.length, ListN.take, Seq.length-take-le}
-use Rattle.model.specs.Decimal.{digits, natural, mostDigits}
-use Rattle.write_text.specs.Put.{Put, Near}
-use Rattle.write_text.proofs.Laws.{width-few, digits-made}
+use lib.ListN.{length}
+use Rattle.model.specs.{Placed.placed, Decimal.digits, Decimal.natural}
+use Rattle.write_text.proofs.Laws.{natural-length, room-inside, put-outside}
 use Rattle.write_text.proofs.put_natural.Statement.{statement}
 use Rattle.write_text.proofs.put_natural.Tie as tie
 
-few : (c : tie.After-width-of) → c .width-of .result ≤ mostDigits
-few c = let w = width-few (c .before .before .args .n) in omega (arith, c .width-of .ensures)
-
--- the memory in which they are made has room for ten
-room : (c : tie.After-spell) → length (c .spell .last .0) ≡ mostDigits
-room c = c .spell .kept .0
-
-made : (c : tie.After-spell) → take (c .before .before .width-of .result) (c .spell .last .0) ≡ natural (c .before .before .before .before .args .n)
-unfolding natural
-made c =
-    let w = c .before .before .width-of .result in
-    let n = c .before .before .before .before .args .n in
-    ap (take w) (c .spell .ensures)
-    ∙ digits-made _ w n (few (c .before .before))
-    ∙ ap (λ (x : ℕ). digits x n) (c .before .before .width-of .ensures)
+-- as many digits as the text has bytes
+long : (c : tie.After-width-of) → c .width-of .result ≡ length (natural (c .before .before .args .n))
+long c = let n = natural-length (c .before .before .args .n) in omega (arith, c .width-of .ensures)
 
 pub put-natural-spec : {M : Type 1} → statement M
+unfolding natural
 put-natural-spec =
     tie.close
     (tie.spec
-    (λ c κs. search needs) (λ c. search needs)
-    (λ c κs. let f = few (c .before) in omega arith)
-    (λ c. let f = few (c .before .before .before .before) in let r = room (c .before .before) in omega arith)
-    (λ c. let f = few (c .before .before .before .before .before) in let r = room (c .before .before .before) in sym (length-take-le _ _ (omega arith)))
-    (λ c κs. let e = made (c .before .before .before) in rw e (c .before .before .before .before .before .before .before .pre))
+    (λ c κs. search needs)
+    (λ c. let l = long c in omega (arith, c .before .before .pre .near))
+    (λ c κs. let w = c .before .before in let l = long w in omega (arith, room-inside (w .before .before .pre) (c .before .if1 .taken)))
     (λ c. search needs)
-    (λ c. let e = made (c .before .before .before .before .before .before) in rw e at (c .before .before .put-word .ensures)))
+    (λ c.
+    let p = c .before .before in
+    let w = p .before .before .before in
+    let a = w .before .before .args in
+    record { memory = p .spell .ensures ∙ ap (λ (x : ℕ). placed (a .out .now) (a .at) (digits x (a .n))) (w .width-of .ensures); next = ap (λ (x : ℕ). a .at + x) (long w) })
+    (λ c. let w = c .before in put-outside _ _ _ _ (c .if1 .left) (ap (λ (x : ℕ). w .before .before .args .at + x) (long w))))

@@ -1,12 +1,11 @@
 -- A minus sign and the magnitude, or the magnitude alone.
-use mathlib.Core.Path.{_≡_, sym, ap, subst, _∙_}
-use mathlib.Core.Bool.{true, false}
+use mathlib.Core.Path.{_≡_, ap, _∙_}
 use mathlib.Core.List.{[], _∷_, _++_}
-use lib.{IntN.natAbs, IntN.pos, Signed.ltZ}
+use lib.{IntN.natAbs}
 use borrow.Author.Needs.{needs}
 use mir.{Syntax.w32, Facts.toZ-ofZ}
 use Rattle.model.specs.{Text.minus, Decimal.natural, Decimal.whole}
-use Rattle.write_text.proofs.Laws.{whole-neg, whole-pos, put-then, near-first, near-next}
+use Rattle.write_text.proofs.Laws.{whole-neg, whole-pos, put-then, room-first, room-next}
 use Rattle.write_text.proofs.put_whole.Statement.{statement}
 use Rattle.write_text.proofs.put_whole.Tie as tie
 
@@ -25,8 +24,8 @@ put-whole-spec =
     tie.close
     (tie.spec
     (λ c κs. search needs)
-    (λ c κs. near-first _ (minus ∷ []) (natural (c .before .before .magnitude .result)) (rw (below (c .before)) at (c .before .before .before .before .pre)))
-    (λ c κs. near-next _ _ (minus ∷ []) (natural (c .before .before .before .before .before .before .magnitude .result)) (rw (below (c .before .before .before .before .before)) at (c .before .before .before .before .before .before .before .before .pre)) (c .before .before .before .put-byte .ensures .next))
+    (λ c κs. room-first (minus ∷ []) (natural (c .before .before .magnitude .result)) (rw (below (c .before)) at (c .before .before .before .before .pre)))
+    (λ c κs. room-next (minus ∷ []) (natural (c .before .before .before .before .before .before .magnitude .result)) (rw (below (c .before .before .before .before .before)) at (c .before .before .before .before .before .before .before .before .pre)) (c .before .before .before .put-byte .ensures))
     (λ c. search needs)
     (λ c. rw (below (c .before .before .before .before .before .before .before .before)) (put-then (c .before .before .before .before .before .before .put-byte .ensures) (c .before .before .put-natural .ensures)))
     (λ c κs. rw (above (c .before)) at (c .before .before .before .before .pre))

@@ -4,7 +4,7 @@ use mathlib.Core.Path.{_≡_, refl, ap, _∙_}
 use native.Mathlib.{Omega.arith, Nat.add-zero}
 use lib.ListN.{length, drop}
 use Rattle.model.specs.Placed.{placed}
-use Rattle.write_text.proofs.Laws.{word-again, word-ends}
+use Rattle.write_text.proofs.Laws.{word-room, word-again, word-ends}
 use Rattle.write_text.proofs.put_word.Statement.{statement}
 use Rattle.write_text.proofs.put_word.Tie as tie
 
@@ -39,8 +39,11 @@ put-word-spec =
     Inv-loop
     μ-loop
     loop-holds
-    (λ c. omega arith) (λ c. omega arith) (λ c κs. omega arith) (λ c. omega arith) (λ c. omega arith)
-    loop-again
+    (λ c. omega (arith, c .before .before .before .before .before .pre .near))
     (λ c. omega arith)
+    (λ c κs. let l = c .before .before .before in let s = l .before .before .before in word-room (s .args .word .now) (s .args .at) (l .loop .i) _ (s .pre) (l .loop .inv .0) (omega arith))
+    (λ c. omega arith) (λ c. omega arith)
+    loop-again
+    (λ c. omega (arith, c .before .before .before .before .pre .near))
     (λ c. c .before .loop .inv .0)
     returns)

@@ -1,0 +1,2 @@
+-- The laws of what is written for an export.
+pub mod Laws
