@@ -1,9 +1,13 @@
-// A sheet run and printed.
+// What the programs do with the text that they have read: a sheet run and printed, an export of the belt log written as lines and printed.
 use model::Answer;
+use model::TextAnswer;
+use whole_log::write_log;
 use whole_sheet::run_sheet;
 use write_answer::numbers;
+use write_answer::text_numbers;
 ghost use mathlib.Core.Path.{_≡_};
-ghost use Rattle.model.specs.Answer.{left, runSheet};
+ghost use Rattle.model.specs.{Answer.left, Answer.runSheet, Written.written};
+ghost use Rattle.model_log.specs.Log.{writeLog};
 
 // Runs the sheet on the output memory, and prints the sent lines and then `end=` with the six numbers. The output memory is left as the run left it.
 pub fn run_and_print(sheet: &[u8], output: &mut [u8]) -> Answer
@@ -11,5 +15,15 @@ pub fn run_and_print(sheet: &[u8], output: &mut [u8]) -> Answer
 {
     let a = run_sheet(sheet, output);
     terminal::print_run(numbers(a), output);
+    a
+}
+
+// Writes the `msg` lines of the export into the output memory and prints them, and `answer=` with the three numbers on standard error. The output memory is
+// left as the writing left it.
+pub fn write_and_print(log: &[u8], output: &mut [u8]) -> TextAnswer
+    ensures { λ r. ⌜ written r (now (output .exit)) ≡ writeLog (now (log .entry)) (now (output .entry)) ⌝ }
+{
+    let a = write_log(log, output);
+    terminal::print_text(text_numbers(a), output);
     a
 }

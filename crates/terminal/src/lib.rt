@@ -1,6 +1,8 @@
 // What the programs read from standard input and print.
+use libc::STDERR_FILENO;
 use libc::STDOUT_FILENO;
 use model::NUMBERS;
+use model::TEXT_NUMBERS;
 ghost use lib.ListN.{length};
 ghost use Rattle.terminal.specs.Input.{WithinBuffer};
 
@@ -33,21 +35,38 @@ fn signed(x: u32) -> isize {
     x as isize
 }
 
-fn print_number(x: u32) {
-    io::print_decimal(STDOUT_FILENO, x as u64);
+fn print_number(fd: i32, x: u32) {
+    io::print_decimal(fd, x as u64);
+}
+
+// The first bytes of the output memory, on standard output.
+fn print_front(output: &[u8], bytes: u32) {
+    let n = io::count(signed(bytes), output);
+    io::write_all(STDOUT_FILENO, &output[..n]);
+}
+
+// A name and the numbers, single spaces between and a line feed last.
+fn print_numbers(fd: i32, name: &[u8], ns: &[u32]) {
+    io::write_all(fd, name);
+    let mut i: usize = 0;
+    while i < ns.len() {
+        if 0 < i {
+            io::write_all(fd, b" ");
+        }
+        print_number(fd, ns[i]);
+        i += 1;
+    }
+    io::write_all(fd, b"\n");
 }
 
 // Prints the sent lines, and then `end=` with the six numbers.
 pub fn print_run(ns: [u32; NUMBERS], output: &[u8]) {
-    let n = io::count(signed(ns[4]), output);
-    io::write_all(STDOUT_FILENO, &output[..n]);
-    io::write_all(STDOUT_FILENO, b"end=");
-    print_number(ns[0]);
-    let mut i: usize = 1;
-    while i < NUMBERS {
-        io::write_all(STDOUT_FILENO, b" ");
-        print_number(ns[i]);
-        i += 1;
-    }
-    io::write_all(STDOUT_FILENO, b"\n");
+    print_front(output, ns[4]);
+    print_numbers(STDOUT_FILENO, b"end=", &ns);
+}
+
+// Prints the text that was written; standard error gets `answer=` with the three numbers.
+pub fn print_text(ns: [u32; TEXT_NUMBERS], output: &[u8]) {
+    print_front(output, ns[2]);
+    print_numbers(STDERR_FILENO, b"answer=", &ns);
 }
