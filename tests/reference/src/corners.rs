@@ -1,6 +1,8 @@
 //! Hand-written sheets, each with the text that document 01 demands. Nothing here was computed by
 //! the model: the expected texts were worked out from the document.
 
+pub mod log;
+
 use crate::model::{end_line, LENT};
 
 /// A sheet, the bytes lent to it, and what `runsheet` would print with that many bytes lent.

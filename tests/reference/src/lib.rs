@@ -1,16 +1,20 @@
-//! A reference model of the confidential run: one sheet, two executions.
+//! A reference model of the confidential run: one sheet, two executions; and of what makes a
+//! sheet's lines.
 //!
-//! The product is described in document 01. This package says the same again in plain Rust, written
-//! for obvious correctness and not for speed, so that another implementation can be compared with
-//! it.
+//! The product is described in document 01 and in the notes of document 02. This package says the
+//! same again in plain Rust, written for obvious correctness and not for speed, so that another
+//! implementation can be compared with it.
 //!
 //! - [`model`] reads a sheet and runs it, in the order of the document's text.
+//! - [`log`] makes `msg` lines out of the export of a belt log.
 //! - [`generate`] makes random sheets from a seed: accepted, damaged, noisy, and pairs that differ
-//!   only in their secrets.
-//! - [`corners`] lists hand-written sheets with the text that document 01 demands for each.
+//!   only in their secrets. [`generate::log`] makes random exports.
+//! - [`corners`] lists hand-written sheets with the text that document 01 demands for each,
+//!   [`corners::log`] exports with their lines.
 
 pub mod corners;
 pub mod generate;
+pub mod log;
 pub mod model;
 
 pub use model::{

@@ -398,7 +398,7 @@ fn number(text: &[u8], lowest: i64, highest: i64) -> Result<i64, u32> {
 }
 
 /// A number that names a variable, a key, a place or a count.
-fn small(text: &[u8], lowest: usize, highest: usize) -> Result<usize, u32> {
+pub(crate) fn small(text: &[u8], lowest: usize, highest: usize) -> Result<usize, u32> {
     let number = number(text, lowest as i64, highest as i64)?;
     usize::try_from(number).map_err(|_| 4)
 }
@@ -419,7 +419,7 @@ fn target(text: &[u8]) -> Result<usize, u32> {
 }
 
 /// "Dummies and message values have the full range above." Reading: so has the n of `set`.
-fn value(text: &[u8]) -> Result<i32, u32> {
+pub(crate) fn value(text: &[u8]) -> Result<i32, u32> {
     let number = number(text, LOWEST, HIGHEST)?;
     i32::try_from(number).map_err(|_| 4)
 }
@@ -792,10 +792,15 @@ pub fn c_entry(sheet: &[u8], output: &mut [u8], answer: &mut [u8]) -> u32 {
         return 10;
     }
     let numbers = run_sheet(sheet, output);
+    write_numbers(answer, &numbers);
+    numbers[0]
+}
+
+/// "in 32 bits each, low byte first".
+pub(crate) fn write_numbers(answer: &mut [u8], numbers: &[u32]) {
     for (bytes, number) in answer.chunks_exact_mut(4).zip(numbers) {
         bytes.copy_from_slice(&number.to_le_bytes());
     }
-    numbers[0]
 }
 
 /// What `runsheet` prints when it lends `lent` bytes: "the sent lines and then `end=` with the six
@@ -811,6 +816,11 @@ pub fn printed(sheet: &[u8], lent: usize) -> Vec<u8> {
 
 /// The last line that `runsheet` prints.
 pub fn end_line(numbers: [u32; 6]) -> Vec<u8> {
-    let words = numbers.map(|number| number.to_string());
-    format!("end={}\n", words.join(" ")).into_bytes()
+    numbers_line("end", &numbers)
+}
+
+/// A name, an equals sign, and numbers with "single spaces between and a line feed last".
+pub(crate) fn numbers_line(name: &str, numbers: &[u32]) -> Vec<u8> {
+    let words: Vec<String> = numbers.iter().map(u32::to_string).collect();
+    format!("{name}={}\n", words.join(" ")).into_bytes()
 }

@@ -222,7 +222,7 @@ fn misplace_line(rng: &mut Rng, lines: &mut Vec<Line>) {
 // Refusal 4.
 
 /// Numbers that are malformed, or beyond some limit, or just at it.
-const BAD_NUMBERS: [&str; 28] = [
+pub(super) const BAD_NUMBERS: [&str; 28] = [
     "",
     "00",
     "01",
@@ -546,7 +546,7 @@ fn spoil_letters(rng: &mut Rng, lines: &mut Vec<Line>) {
 // Any refusal, or none.
 
 /// One byte changed, lost, added or taken from another place.
-fn change_byte(rng: &mut Rng, sheet: &mut Vec<u8>) {
+pub(super) fn change_byte(rng: &mut Rng, sheet: &mut Vec<u8>) {
     if sheet.is_empty() {
         return;
     }
