@@ -1,5 +1,6 @@
 /*
- * The confidential run of one sheet: two executions, one message. Link with libpavebox.a.
+ * The confidential run of one sheet: two executions, one message; and the msg lines of a sheet out
+ * of the export of a belt log. Link with libpavebox.a.
  */
 #ifndef PAVEBOX_H
 #define PAVEBOX_H
@@ -83,6 +84,58 @@ static inline struct pavebox_answer pavebox_read_answer(const uint8_t *answer)
     numbers.low_steps = pavebox_read_number(answer + 12);
     numbers.written = pavebox_read_number(answer + 16);
     numbers.taken = pavebox_read_number(answer + 20);
+    return numbers;
+}
+
+/* The answer memory of pavebox_csv has exactly this many bytes. */
+#define PAVEBOX_CSV_ANSWER_BYTES 12u
+
+/* No export gives more than this: 32 lines of 116 bytes. With this much output memory, or more,
+ * PAVEBOX_NO_ROOM_FOR_LINES never occurs. */
+#define PAVEBOX_MOST_CSV_OUTPUT_BYTES 3712u
+
+/* The export was accepted, and its lines are in the output memory. */
+#define PAVEBOX_WRITTEN 0u
+
+/* Refusals of an export: the output memory is untouched. PAVEBOX_TOO_MANY (a 33rd message) and
+ * PAVEBOX_BAD_ANSWER (the answer memory is not exactly 12 bytes) are further ones. */
+#define PAVEBOX_BAD_ROW 41u           /* a quote mark, a bare carriage return or line feed, an
+                                         unfinished last row, an empty export, or another count of
+                                         fields than the first row has */
+#define PAVEBOX_BAD_FIELD 42u         /* a bad number, or a key that does not rise */
+#define PAVEBOX_NO_ROOM_FOR_LINES 43u /* the output memory is shorter than the lines */
+
+/*
+ * Makes a msg line of a sheet out of each row of an export but the first, which has the keys.
+ *
+ * log, log_len        the export's bytes, which are only read. Any bytes will do, and any number.
+ * output, output_len  the output memory. The lines go to its start, one after the other; behind
+ *                     them, and everywhere if the export is refused, it keeps its bytes.
+ * answer, answer_len  the answer memory: 12 bytes for three numbers, see pavebox_read_csv_answer.
+ *
+ * Returns PAVEBOX_WRITTEN or the refusal, which is also the first of the three numbers. If
+ * answer_len is not 12 it returns PAVEBOX_BAD_ANSWER and writes nothing.
+ *
+ * The caller's duties are those of pavebox_run.
+ */
+uint32_t pavebox_csv(const uint8_t *log, size_t log_len,
+                     uint8_t *output, size_t output_len,
+                     uint8_t *answer, size_t answer_len);
+
+/* The three numbers of an answer of pavebox_csv. */
+struct pavebox_csv_answer {
+    uint32_t number;  /* PAVEBOX_WRITTEN or a refusal, as above */
+    uint32_t row;     /* the row that is refused, from 1; 0 if there is none */
+    uint32_t written; /* bytes of msg lines at the start of the output memory */
+};
+
+/* The three numbers from the 12 bytes that pavebox_csv has filled. */
+static inline struct pavebox_csv_answer pavebox_read_csv_answer(const uint8_t *answer)
+{
+    struct pavebox_csv_answer numbers;
+    numbers.number = pavebox_read_number(answer);
+    numbers.row = pavebox_read_number(answer + 4);
+    numbers.written = pavebox_read_number(answer + 8);
     return numbers;
 }
 

@@ -1,11 +1,23 @@
 //! A safe wrapper over `libpavebox.a`, the proved confidential run of one sheet.
 //!
+//! [`run`] runs a sheet:
+//!
 //! ```
 //! let sheet = b"sheet=1\nkeys=1\ndo=receive\ndo=send\nmsg=0:7\nturns=LL\n";
 //! let mut output = [0; 100];
 //! let answer = pavebox::run(sheet, &mut output);
 //! assert_eq!((answer.ending, answer.written), (pavebox::STOPPED, 22));
 //! assert_eq!(&output[..22], b"sent=0001 +0000000007\n");
+//! ```
+//!
+//! [`csv`] makes the `msg` lines of a sheet out of the export of a belt log:
+//!
+//! ```
+//! let export = b"0,3\r\n1500,\r\n,-5\r\n";
+//! let mut output = [0; pavebox::MOST_CSV_OUTPUT_BYTES];
+//! let answer = pavebox::csv(export, &mut output);
+//! assert_eq!((answer.number, answer.written), (pavebox::WRITTEN, 20));
+//! assert_eq!(&output[..20], b"msg=0:1500\nmsg=3:-5\n");
 //! ```
 
 /// The bytes of an answer.
@@ -16,14 +28,44 @@ pub const STOPPED: u32 = 0;
 pub const LETTERS_USED: u32 = 31;
 /// The ending of a run whose output memory has no room for the next line.
 pub const NO_ROOM: u32 = 32;
-/// What [`entry`] returns if the answer memory is not exactly [`ANSWER_BYTES`] long.
+/// What [`entry`] returns if the answer memory is not exactly [`ANSWER_BYTES`] long, and
+/// [`csv_entry`] if it is not exactly [`CSV_ANSWER_BYTES`] long.
 pub const BAD_ANSWER: u32 = 10;
 
+/// The bytes of an answer of [`csv_entry`].
+pub const CSV_ANSWER_BYTES: usize = 12;
+/// No export gives more bytes of lines. With so much output memory [`NO_ROOM_FOR_LINES`] never
+/// occurs.
+pub const MOST_CSV_OUTPUT_BYTES: usize = 3_712;
+/// The number of an export whose lines are in the output memory.
+pub const WRITTEN: u32 = 0;
+/// The refusal of an export with a 33rd message.
+pub const TOO_MANY: u32 = 8;
+/// The refusal of an export with a quote mark, a bare carriage return or line feed, an unfinished
+/// last row, another count of fields than the first row has, or nothing at all.
+pub const BAD_ROW: u32 = 41;
+/// The refusal of an export with a bad number, or a key that does not rise.
+pub const BAD_FIELD: u32 = 42;
+/// The refusal of an export whose lines are longer than the output memory.
+pub const NO_ROOM_FOR_LINES: u32 = 43;
+
 mod archive {
+    /// An entry of the archive: bytes that are read, the output memory and the answer memory.
+    pub type Entry = unsafe extern "C" fn(*const u8, usize, *mut u8, usize, *mut u8, usize) -> u32;
+
     extern "C" {
         pub fn pavebox_run(
             sheet: *const u8,
             sheet_len: usize,
+            output: *mut u8,
+            output_len: usize,
+            answer: *mut u8,
+            answer_len: usize,
+        ) -> u32;
+
+        pub fn pavebox_csv(
+            log: *const u8,
+            log_len: usize,
             output: *mut u8,
             output_len: usize,
             answer: *mut u8,
@@ -52,18 +94,13 @@ pub struct Answer {
 impl Answer {
     /// The six numbers out of an answer memory, where each has 32 bits, low byte first.
     pub fn from_bytes(bytes: &[u8; ANSWER_BYTES]) -> Answer {
-        let byte = |place: usize| u32::from(bytes[place]);
-        let number = |place: usize| {
-            let place = 4 * place;
-            byte(place) | byte(place + 1) << 8 | byte(place + 2) << 16 | byte(place + 3) << 24
-        };
         Answer {
-            ending: number(0),
-            line: number(1),
-            positions: number(2),
-            low_steps: number(3),
-            written: number(4),
-            taken: number(5),
+            ending: number(bytes, 0),
+            line: number(bytes, 1),
+            positions: number(bytes, 2),
+            low_steps: number(bytes, 3),
+            written: number(bytes, 4),
+            taken: number(bytes, 5),
         }
     }
 
@@ -80,6 +117,40 @@ impl Answer {
     }
 }
 
+/// The three numbers of an export.
+#[derive(Debug, Clone, Copy, PartialEq, Eq)]
+pub struct CsvAnswer {
+    /// 0 if the lines were written, else the refusal: 8, 41, 42 or 43.
+    pub number: u32,
+    /// The row that is refused, from 1; 0 if there is none.
+    pub row: u32,
+    /// Bytes of `msg` lines at the start of the output memory.
+    pub written: u32,
+}
+
+impl CsvAnswer {
+    /// The three numbers out of an answer memory, where each has 32 bits, low byte first.
+    pub fn from_bytes(bytes: &[u8; CSV_ANSWER_BYTES]) -> CsvAnswer {
+        CsvAnswer {
+            number: number(bytes, 0),
+            row: number(bytes, 1),
+            written: number(bytes, 2),
+        }
+    }
+
+    /// The three numbers in their order.
+    pub fn numbers(&self) -> [u32; 3] {
+        [self.number, self.row, self.written]
+    }
+}
+
+/// One number of an answer memory, by its place among them.
+fn number(bytes: &[u8], place: usize) -> u32 {
+    let byte = |place: usize| u32::from(bytes[place]);
+    let place = 4 * place;
+    byte(place) | byte(place + 1) << 8 | byte(place + 2) << 16 | byte(place + 3) << 24
+}
+
 /// Reads a sheet and runs it to its ending. The sent lines are at the start of `output`; behind
 /// them, and everywhere if the sheet is refused, `output` keeps its bytes.
 pub fn run(sheet: &[u8], output: &mut [u8]) -> Answer {
@@ -91,13 +162,33 @@ pub fn run(sheet: &[u8], output: &mut [u8]) -> Answer {
 /// The entry as a C program has it. It fills `answer` and returns the first of the six numbers; if
 /// `answer` is not exactly [`ANSWER_BYTES`] long it returns [`BAD_ANSWER`] and writes nothing.
 pub fn entry(sheet: &[u8], output: &mut [u8], answer: &mut [u8]) -> u32 {
+    call(archive::pavebox_run, sheet, output, answer)
+}
+
+/// Makes a `msg` line out of each row of an export but the first, which has the keys. The lines are
+/// at the start of `output`; behind them, and everywhere if the export is refused, `output` keeps
+/// its bytes.
+pub fn csv(log: &[u8], output: &mut [u8]) -> CsvAnswer {
+    let mut answer = [0; CSV_ANSWER_BYTES];
+    csv_entry(log, output, &mut answer);
+    CsvAnswer::from_bytes(&answer)
+}
+
+/// The same as a C program has it. It fills `answer` and returns the first of the three numbers; if
+/// `answer` is not exactly [`CSV_ANSWER_BYTES`] long it returns [`BAD_ANSWER`] and writes nothing.
+pub fn csv_entry(log: &[u8], output: &mut [u8], answer: &mut [u8]) -> u32 {
+    call(archive::pavebox_csv, log, output, answer)
+}
+
+/// Calls an entry of the archive, one of the two above.
+fn call(entry: archive::Entry, input: &[u8], output: &mut [u8], answer: &mut [u8]) -> u32 {
     // SAFETY: Each pointer and length are those of a slice, so the bytes are there to be read, and
     // those of `output` and `answer` to be written, during the call. The two are borrowed mutably,
     // so that no two of the three ranges overlap. The archive keeps none of the pointers.
     unsafe {
-        archive::pavebox_run(
-            sheet.as_ptr(),
-            sheet.len(),
+        entry(
+            input.as_ptr(),
+            input.len(),
             output.as_mut_ptr(),
             output.len(),
             answer.as_mut_ptr(),
@@ -150,5 +241,77 @@ mod tests {
         let (mut output, mut answer) = ([b'~'; 25], [b'~'; 25]);
         assert_eq!(entry(SHEET, &mut output, &mut answer), BAD_ANSWER);
         assert_eq!((output, answer), ([b'~'; 25], [b'~'; 25]));
+    }
+
+    /// Two messages, the second without its first entry.
+    const EXPORT: &[u8] = b"2,5\r\n-40,7\r\n,300\r\n";
+
+    #[test]
+    fn lines_of_an_export_stand_at_the_start_of_the_output() {
+        let mut output = [b'~'; 27];
+        assert_eq!(csv(EXPORT, &mut output).numbers(), [WRITTEN, 0, 24]);
+        assert_eq!(&output, b"msg=2:-40,5:7\nmsg=5:300\n~~~");
+    }
+
+    #[test]
+    fn each_number_of_an_export_has_its_name_and_place() {
+        let bytes = std::array::from_fn(|place| place as u8);
+        let answer = CsvAnswer {
+            number: 0x03_02_01_00,
+            row: 0x07_06_05_04,
+            written: 0x0b_0a_09_08,
+        };
+        assert_eq!(CsvAnswer::from_bytes(&bytes), answer);
+        let bytes_again = answer.numbers().map(u32::to_le_bytes).concat();
+        assert_eq!(bytes_again, bytes);
+    }
+
+    #[test]
+    fn a_refused_export_leaves_the_output_as_it_is() {
+        let too_many = [b"0\r\n".as_slice(), &b"1\r\n".repeat(33)].concat();
+        let refused: [(&[u8], [u32; 3]); 4] = [
+            (&too_many, [TOO_MANY, 34, 0]),
+            (b"2,5\r\n1,2\r\n3\r\n", [BAD_ROW, 3, 0]),
+            (b"5,2\r\n1,2\r\n", [BAD_FIELD, 1, 0]),
+            (EXPORT, [NO_ROOM_FOR_LINES, 0, 0]),
+        ];
+        for (export, numbers) in refused {
+            let mut output = [b'~'; 23];
+            assert_eq!(csv(export, &mut output).numbers(), numbers);
+            assert_eq!(output, [b'~'; 23]);
+        }
+    }
+
+    #[test]
+    fn lines_of_an_export_are_the_messages_of_a_sheet() {
+        let mut lines = [b'~'; 24];
+        csv(EXPORT, &mut lines);
+        let head = b"sheet=1\nkeys=6\ndo=receive\ndo=send\ndo=jump 0\n";
+        let sheet = [head.as_slice(), &lines, b"turns=LLLLL\n"].concat();
+        let mut output = [b'~'; 164];
+        assert_eq!(
+            run(&sheet, &mut output).numbers(),
+            [LETTERS_USED, 0, 5, 5, 164, 2]
+        );
+        let sent: &[u8] = b"\
+            sent=0001 ........... ........... -0000000040 ........... ........... +0000000007\n\
+            sent=0004 ........... ........... ........... ........... ........... +0000000300\n";
+        assert_eq!(output, sent);
+    }
+
+    #[test]
+    fn empty_memories_are_lawful_for_an_export() {
+        assert_eq!(csv(b"0\r\n", &mut []).numbers(), [WRITTEN, 0, 0]);
+        assert_eq!(csv(&[], &mut []).numbers(), [BAD_ROW, 1, 0]);
+        assert_eq!(csv_entry(&[], &mut [], &mut []), BAD_ANSWER);
+    }
+
+    #[test]
+    fn another_length_than_that_of_three_numbers_is_refused() {
+        for length in [11, 13, ANSWER_BYTES] {
+            let (mut output, mut answer) = ([b'~'; 27], vec![b'~'; length]);
+            assert_eq!(csv_entry(EXPORT, &mut output, &mut answer), BAD_ANSWER);
+            assert_eq!((output, answer), ([b'~'; 27], vec![b'~'; length]));
+        }
     }
 }
