@@ -1,0 +1,60 @@
+/*
+ * What the C tests share: checks that are counted, heap memory of exact lengths, and calls of one
+ * entry of the archive on such memory.
+ */
+#ifndef CHECK_H
+#define CHECK_H
+
+#include "pavebox.h"
+
+/* What the output memory and the answer memory hold before a call. */
+#define FILL 0xaa
+
+/* The most numbers that an answer has. */
+#define MOST_NUMBERS 6
+
+#define COUNT(list) (sizeof(list) / sizeof(list)[0])
+
+/* An entry of the archive. */
+struct entry {
+    uint32_t (*call)(const uint8_t *input, size_t input_len, uint8_t *output, size_t output_len,
+                     uint8_t *answer, size_t answer_len);
+    /* How many numbers its answer has. */
+    size_t numbers;
+    /* Checks that the header reads these numbers out of an answer. */
+    void (*check_read)(const char *name, const uint8_t *answer, const uint32_t *numbers);
+};
+
+/* What a call is to give: the text at the start of the output memory, and the numbers. */
+struct wanted {
+    const char *text;
+    uint32_t numbers[MOST_NUMBERS];
+};
+
+/* Names the entry that the checks behind it are of. */
+void begin(const char *entry);
+
+/* Counts a check and prints a line if it fails. */
+void check(int holds, const char *name, const char *what);
+
+/* Heap memory of exactly this length, which may be 0, and filled. */
+uint8_t *memory(size_t length);
+
+/* One call with all three memories on the heap, and all that it leaves. */
+void check_call(const struct entry *entry, const char *name, const void *input, size_t input_len,
+                size_t lent, struct wanted wanted);
+
+/* Refusal 10, before anything else, with nothing written. */
+void check_answer_lengths(const struct entry *entry, const char *input, const size_t *lengths,
+                          size_t count);
+
+/* NULL with length 0, for each of the three memories and for all: what nothing to be read gives,
+ * and what an input that is to write something gives without output memory. */
+void check_nulls(const struct entry *entry, const char *input, struct wanted empty,
+                 struct wanted no_room);
+
+/* The checks of each entry. */
+void check_run(void);
+void check_csv(void);
+
+#endif

@@ -1,0 +1,169 @@
+/* The boundary of pavebox_run. */
+#include "check.h"
+
+#include <stdio.h>
+#include <stdlib.h>
+#include <string.h>
+
+#define LENT 32768u
+
+/* A sheet that sends one line, of 34 bytes. */
+#define SHEET \
+    "sheet=1\nkeys=2\nsecret=1:-4\ndo=receive\ndo=set 7 12\ndo=put 0 7\ndo=send\n" \
+    "msg=0:5,1:-6\nturns=LHLLL\n"
+#define SENT "sent=0004 +0000000012 -0000000006\n"
+
+static void check_read(const char *name, const uint8_t *answer, const uint32_t *numbers)
+{
+    const struct pavebox_answer found = pavebox_read_answer(answer);
+    check(found.ending == numbers[0], name, "ending or refusal");
+    check(found.line == numbers[1], name, "line");
+    check(found.positions == numbers[2], name, "positions used");
+    check(found.low_steps == numbers[3], name, "low steps");
+    check(found.written == numbers[4], name, "bytes written");
+    check(found.taken == numbers[5], name, "messages taken");
+}
+
+static const struct entry entry = {pavebox_run, PAVEBOX_ANSWER_BYTES / 4, check_read};
+
+static void run(const char *name, const void *sheet, size_t sheet_len, size_t lent,
+                struct wanted wanted)
+{
+    check_call(&entry, name, sheet, sheet_len, lent, wanted);
+}
+
+static void run_text(const char *name, const char *sheet, size_t lent, struct wanted wanted)
+{
+    run(name, sheet, strlen(sheet), lent, wanted);
+}
+
+#define WANTED(sent, a, b, c, d, e, f) ((struct wanted){sent, {a, b, c, d, e, f}})
+
+/* Output memories with no room for the line, with just enough, and with more. */
+static void check_output_lengths(void)
+{
+    static const size_t lengths[] = {0, 1, 33, 34, 35, LENT};
+    size_t place;
+    for (place = 0; place < COUNT(lengths); place++) {
+        char name[32];
+        snprintf(name, sizeof name, "%lu bytes lent", (unsigned long)lengths[place]);
+        run_text(name, SHEET, lengths[place],
+                 lengths[place] < 34 ? WANTED("", 32, 0, 4, 3, 0, 1)
+                                     : WANTED(SENT, 0, 0, 5, 4, 34, 1));
+    }
+}
+
+/* A sheet that is cut off after each of its bytes: in the middle of a line it has no line feed at
+ * the end, after a line it ends early. */
+static void check_sheet_lengths(void)
+{
+    const size_t whole = strlen(SHEET);
+    uint32_t line = 1;
+    size_t length;
+    for (length = 0; length < whole; length++) {
+        const int after_line = length > 0 && SHEET[length - 1] == '\n';
+        char name[32];
+        line += (uint32_t)after_line;
+        snprintf(name, sizeof name, "the first %lu bytes", (unsigned long)length);
+        run(name, SHEET, length, LENT,
+            WANTED("", after_line ? PAVEBOX_BAD_NAME : PAVEBOX_BAD_BYTE, line, 0, 0, 0, 0));
+    }
+}
+
+/* Refusals whose fault stands as near to the end of the sheet's memory as it can. */
+static void check_refusals(void)
+{
+#define HEAD "sheet=1\nkeys=1\n"
+    run_text("2 at the end", HEAD "do=stop\nturns=L\n\177", LENT, WANTED("", 2, 5, 0, 0, 0, 0));
+    run_text("3 at the end", HEAD "do=stop\nturns=L\n\n", LENT, WANTED("", 3, 5, 0, 0, 0, 0));
+    run_text("4 at the end", HEAD "do=drop \n", LENT, WANTED("", 4, 3, 0, 0, 0, 0));
+    run_text("5 at the end", HEAD "do=stop\nmsg=0:1,0:\n", LENT, WANTED("", 5, 4, 0, 0, 0, 0));
+    run_text("6 at the end", HEAD "do=stop \n", LENT, WANTED("", 6, 3, 0, 0, 0, 0));
+    run_text("7 at the end", HEAD "do=jump 2\nturns=L\n", LENT, WANTED("", 7, 3, 0, 0, 0, 0));
+    run_text("9 at the end", HEAD "do=stop\nturns=\n", LENT, WANTED("", 9, 4, 0, 0, 0, 0));
+#undef HEAD
+}
+
+/* The largest sheet, and one byte more. No accepted sheet is that long. */
+static void check_long_sheets(void)
+{
+    const size_t most = PAVEBOX_MOST_SHEET_BYTES;
+    uint8_t *feeds = memory(most + 1);
+    memset(feeds, '\n', most + 1);
+    run("16,384 bytes", feeds, most, LENT, WANTED("", 3, 1, 0, 0, 0, 0));
+    run("16,385 bytes", feeds, most + 1, LENT, WANTED("", 1, 0, 0, 0, 0, 0));
+    memset(feeds, 'x', most);
+    run("16,384 bytes without line feed", feeds, most, LENT, WANTED("", 2, 1, 0, 0, 0, 0));
+    free(feeds);
+}
+
+/* As many of everything as a sheet may have, and nearly each number as long as it may be. The
+ * last three commands are a loop that takes a message and sends it. Returns the sheet's length. */
+static size_t write_fullest_sheet(char *sheet)
+{
+    char *next = sheet;
+    unsigned place, key;
+    next += sprintf(next, "sheet=1\nkeys=8\n");
+    for (key = 0; key < 8; key++)
+        next += sprintf(next, "secret=%u:-2147483648\n", key);
+    for (place = 0; place < 61; place++)
+        next += sprintf(next, "do=set 7 -2147483648\n");
+    next += sprintf(next, "do=receive\ndo=send\ndo=jump 61\n");
+    for (place = 0; place < 32; place++) {
+        next += sprintf(next, "msg=0:-2147483648");
+        for (key = 1; key < 8; key++)
+            next += sprintf(next, ",%u:-2147483648", key);
+        next += sprintf(next, "\n");
+    }
+    next += sprintf(next, "turns=");
+    for (place = 0; place < 1024; place++)
+        *next++ = 'L';
+    *next++ = '\n';
+    return (size_t)(next - sheet);
+}
+
+/* What the fullest sheet sends: 32 messages, and lines without entries after them. */
+static void write_its_lines(char *sent)
+{
+    char *next = sent;
+    unsigned line, key;
+    for (line = 0; line < 321; line++) {
+        next += sprintf(next, "sent=%04u", 62 + 3 * line);
+        for (key = 0; key < 8; key++)
+            next += sprintf(next, " %s", line < 32 ? "-2147483648" : "...........");
+        next += sprintf(next, "\n");
+    }
+}
+
+static void check_fullest_sheet(void)
+{
+    static char sheet[PAVEBOX_MOST_SHEET_BYTES];
+    static char sent[PAVEBOX_MOST_OUTPUT_BYTES + 1];
+    size_t length = write_fullest_sheet(sheet);
+    const uint32_t written = 321 * 106;
+    write_its_lines(sent);
+    run("the fullest sheet", sheet, length, written,
+        WANTED(sent, 31, 0, 1024, 1024, written, 32));
+    run("the fullest sheet and much memory", sheet, length, PAVEBOX_MOST_OUTPUT_BYTES,
+        WANTED(sent, 31, 0, 1024, 1024, written, 32));
+    sent[written - 106] = '\0';
+    run("the fullest sheet and a byte too little", sheet, length, written - 1,
+        WANTED(sent, 32, 0, 1022, 1022, written - 106, 32));
+    sheet[length - 1] = 'L';
+    sheet[length++] = '\n';
+    run("the fullest sheet and a letter too many", sheet, length, LENT,
+        WANTED("", 8, 107, 0, 0, 0, 0));
+}
+
+void check_run(void)
+{
+    static const size_t wrong_lengths[] = {0, 1, 4, 20, 23, 25, 28, 48};
+    begin("pavebox_run");
+    check_output_lengths();
+    check_sheet_lengths();
+    check_refusals();
+    check_long_sheets();
+    check_fullest_sheet();
+    check_answer_lengths(&entry, SHEET, wrong_lengths, COUNT(wrong_lengths));
+    check_nulls(&entry, SHEET, WANTED("", 2, 1, 0, 0, 0, 0), WANTED("", 32, 0, 4, 3, 0, 1));
+}
