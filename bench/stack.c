@@ -1,8 +1,9 @@
 /*
- * The stack that the archive uses: each sheet that the command line names is run on a stack of our
- * own, painted with one byte. The deepest byte that has changed tells how much was used. A byte may
- * be written without a change, so each sheet is run with two paints. What a function that does
- * nothing uses in the same place is taken off.
+ * The stack that the archive uses: `stack run SHEETS` for pavebox_run, `stack csv EXPORTS` for
+ * pavebox_csv. Each file that the command line names is handed over on a stack of our own, painted
+ * with one byte. The deepest byte that has changed tells how much was used. A byte may be written
+ * without a change, so each file is tried with two paints. What a function that does nothing uses in
+ * the same place is taken off.
  */
 #define _GNU_SOURCE
 #include "pavebox.h"
@@ -17,10 +18,10 @@
 typedef uint32_t entry(const uint8_t *, size_t, uint8_t *, size_t, uint8_t *, size_t);
 
 static uint8_t stack[STACK_BYTES];
-static uint8_t sheet[PAVEBOX_MOST_SHEET_BYTES + 1];
+static uint8_t text[PAVEBOX_MOST_SHEET_BYTES + 1];
 static uint8_t output[32768];
 static uint8_t answer[PAVEBOX_ANSWER_BYTES];
-static size_t length;
+static size_t length, answer_length;
 static entry *volatile called;
 static ucontext_t here, there;
 
@@ -33,7 +34,7 @@ static uint32_t nothing(const uint8_t *s, size_t s_len, uint8_t *o, size_t o_len
 
 static void call(void)
 {
-    called(sheet, length, output, sizeof output, answer, sizeof answer);
+    called(text, length, output, sizeof output, answer, answer_length);
 }
 
 /* The bytes from the top of the painted stack down to the deepest one that a call has changed. */
@@ -65,19 +66,21 @@ static size_t deepest(entry *which)
     return larger(depth(which, 0xa5), depth(which, 0x5a));
 }
 
-int main(int count, char **names)
+int main(int count, char **words)
 {
+    const int csv = count > 1 && strcmp(words[1], "csv") == 0;
     size_t most = 0;
     int place;
-    for (place = 1; place < count; place++) {
-        FILE *file = fopen(names[place], "rb");
+    answer_length = csv ? PAVEBOX_CSV_ANSWER_BYTES : PAVEBOX_ANSWER_BYTES;
+    for (place = 2; place < count; place++) {
+        FILE *file = fopen(words[place], "rb");
         if (file == NULL) {
-            perror(names[place]);
+            perror(words[place]);
             return 2;
         }
-        length = fread(sheet, 1, sizeof sheet, file);
+        length = fread(text, 1, sizeof text, file);
         fclose(file);
-        most = larger(most, deepest(pavebox_run) - deepest(nothing));
+        most = larger(most, deepest(csv ? pavebox_csv : pavebox_run) - deepest(nothing));
     }
     printf("%lu\n", (unsigned long)most);
     return 0;

@@ -1,10 +1,12 @@
-//! Compares the archive with a straightforward Rust program. See README.md for the commands.
+//! Compares the archive with straightforward Rust programs. See README.md for the commands.
 
+mod logs;
 mod plain;
+mod plain_log;
 mod sheets;
 mod timing;
 
-use sheets::Sheets;
+use sheets::Group;
 use std::hint::black_box;
 use std::path::Path;
 use std::process::ExitCode;
@@ -13,27 +15,37 @@ use timing::Row;
 /// The output memory that both are lent.
 const LENT: usize = 32_768;
 
-/// One of the two sides: a sheet and an output memory to six numbers.
-type Side = fn(&[u8], &mut [u8]) -> [u32; 6];
+/// One of the two sides: a text and an output memory to the numbers of the answer.
+type Side<const N: usize> = fn(&[u8], &mut [u8]) -> [u32; N];
 
-fn archive(sheet: &[u8], output: &mut [u8]) -> [u32; 6] {
-    pavebox::run(sheet, output).numbers()
+/// Two programs that do the same.
+pub struct Sides<const N: usize> {
+    archive: Side<N>,
+    plain: Side<N>,
 }
 
-fn plain(sheet: &[u8], output: &mut [u8]) -> [u32; 6] {
-    plain::run(sheet, output).expect("the sheets of the comparison are accepted")
-}
+/// Running a sheet.
+const RUN: Sides<6> = Sides {
+    archive: |sheet, output| pavebox::run(sheet, output).numbers(),
+    plain: |sheet, output| {
+        plain::run(sheet, output).expect("the sheets of the comparison are accepted")
+    },
+};
+
+/// Making the lines of an export.
+const CSV: Sides<3> = Sides {
+    archive: |export, output| pavebox::csv(export, output).numbers(),
+    plain: plain_log::csv,
+};
 
 fn main() -> ExitCode {
     let words: Vec<String> = std::env::args().skip(1).collect();
     let words: Vec<&str> = words.iter().map(String::as_str).collect();
     let done = match words.as_slice() {
         [] => compare_and_time(),
-        ["archive", count] => run_one(archive, count, "all"),
-        ["archive", count, half] => run_one(archive, count, half),
-        ["plain", count] => run_one(plain, count, "all"),
-        ["plain", count, half] => run_one(plain, count, half),
-        ["sheets", folder] => write_sheets(folder),
+        [side @ ("archive" | "plain"), count] => run_one(side, count, "all"),
+        [side @ ("archive" | "plain"), count, name] => run_one(side, count, name),
+        ["texts", folder] => write_texts(folder),
         _ => Err(usage()),
     };
     match done {
@@ -46,20 +58,22 @@ fn main() -> ExitCode {
 }
 
 fn usage() -> String {
-    "usage: bench\n       bench archive|plain COUNT [all|long|short|largest|LH|all L|random|runs|calls]\n       \
-     bench sheets FOLDER"
+    "usage: bench\n       bench archive|plain COUNT [all|long|short|largest|LH|all L|random|runs|calls|log]\n       \
+     bench texts FOLDER"
         .to_string()
 }
 
 fn compare_and_time() -> Result<(), String> {
     let halves = [sheets::long(), sheets::short()];
     let kinds = sheets::kinds();
+    let logs = [logs::full()];
     for group in halves.iter().chain(&kinds).chain([&sheets::largest()]) {
-        compare(group)?;
+        compare(&RUN, group)?;
     }
-    println!("archive and plain agree on all sheets");
+    compare(&CSV, &logs[0])?;
+    println!("archive and plain agree on all sheets and exports");
     let of_halves = [Row("all", &[0, 1]), Row("long", &[0]), Row("short", &[1])];
-    print!("{}", timing::report(&halves, &of_halves));
+    print!("{}", timing::report(&RUN, &halves, &of_halves));
     println!("long runs, by the kind of their turns:");
     let of_kinds = [
         Row("LH", &[0]),
@@ -68,48 +82,52 @@ fn compare_and_time() -> Result<(), String> {
         Row("runs", &[3]),
         Row("calls", &[4]),
     ];
-    print!("{}", timing::report(&kinds, &of_kinds));
+    print!("{}", timing::report(&RUN, &kinds, &of_kinds));
+    println!("full exports of a belt log:");
+    print!("{}", timing::report(&CSV, &logs, &[Row("log", &[0])]));
     Ok(())
 }
 
-/// Both sides on each sheet: the six numbers, and every byte of the output memory.
-fn compare(half: &Sheets) -> Result<(), String> {
-    for sheet in &half.sheets {
+/// Both sides on each text: the numbers, and every byte of the output memory.
+fn compare<const N: usize>(sides: &Sides<N>, group: &Group) -> Result<(), String> {
+    for text in &group.texts {
         let (mut one, mut other) = (vec![b'~'; LENT], vec![b'~'; LENT]);
-        let (found, wanted) = (archive(sheet, &mut one), plain(sheet, &mut other));
+        let found = (sides.archive)(text, &mut one);
+        let wanted = (sides.plain)(text, &mut other);
         if found != wanted || one != other {
-            let sheet = sheet.escape_ascii();
-            return Err(format!("archive {found:?}, plain {wanted:?}: \"{sheet}\""));
+            let text = text.escape_ascii();
+            return Err(format!("archive {found:?}, plain {wanted:?}: \"{text}\""));
         }
     }
     Ok(())
 }
 
-/// Runs one side over each sheet, COUNT times, and prints what one such pass comes to.
-fn run_one(side: Side, count: &str, name: &str) -> Result<(), String> {
+/// Runs one side over each text, COUNT times, and prints what one such pass comes to.
+fn run_one(side: &str, count: &str, name: &str) -> Result<(), String> {
     let count: u32 = count.parse().map_err(|_| usage())?;
-    let halves = match name {
+    let groups = match name {
         "all" => vec![sheets::long(), sheets::short()],
         "long" => vec![sheets::long()],
         "short" => vec![sheets::short()],
         "largest" => vec![sheets::largest()],
+        "log" => vec![logs::full()],
         kind => of_kind(kind)?,
     };
-    let mut output = vec![0; LENT];
-    for _ in 0..count {
-        for half in &halves {
-            pass(side, half, &mut output);
-        }
+    match (name, side) {
+        ("log", "archive") => passes(CSV.archive, count, &groups),
+        ("log", _) => passes(CSV.plain, count, &groups),
+        (_, "archive") => passes(RUN.archive, count, &groups),
+        _ => passes(RUN.plain, count, &groups),
     }
-    let sheets: usize = halves.iter().map(|half| half.sheets.len()).sum();
-    let positions: u64 = halves.iter().map(|half| half.positions).sum();
-    let bytes: usize = halves.iter().map(|half| half.bytes).sum();
-    println!("{sheets} sheets {positions} positions {bytes} bytes");
+    let texts: usize = groups.iter().map(|group| group.texts.len()).sum();
+    let positions: u64 = groups.iter().map(|group| group.positions).sum();
+    let bytes: usize = groups.iter().map(|group| group.bytes).sum();
+    println!("{texts} texts {positions} positions {bytes} bytes");
     Ok(())
 }
 
 /// The long runs whose turns are of one kind.
-fn of_kind(name: &str) -> Result<Vec<Sheets>, String> {
+fn of_kind(name: &str) -> Result<Vec<Group>, String> {
     let mut kinds = sheets::kinds();
     kinds.retain(|kind| kind.name == name);
     if kinds.is_empty() {
@@ -118,21 +136,32 @@ fn of_kind(name: &str) -> Result<Vec<Sheets>, String> {
     Ok(kinds)
 }
 
-/// One side, once over each sheet. The output memory is the caller's, so that clearing it is no part
-/// of what is counted.
-fn pass(side: Side, half: &Sheets, output: &mut [u8]) {
-    for sheet in &half.sheets {
-        black_box(side(black_box(sheet), black_box(&mut *output)));
+fn passes<const N: usize>(side: Side<N>, count: u32, groups: &[Group]) {
+    let mut output = vec![0; LENT];
+    for _ in 0..count {
+        for group in groups {
+            pass(side, group, &mut output);
+        }
     }
 }
 
-/// Writes each sheet to a file of its own.
-fn write_sheets(folder: &str) -> Result<(), String> {
-    for half in [sheets::long(), sheets::short(), sheets::largest()] {
-        for (place, sheet) in half.sheets.iter().enumerate() {
-            let file = Path::new(folder).join(format!("{}_{place:03}.txt", half.name));
+/// One side, once over each text. The output memory is the caller's, so that clearing it is no part
+/// of what is counted.
+fn pass<const N: usize>(side: Side<N>, group: &Group, output: &mut [u8]) {
+    for text in &group.texts {
+        black_box(side(black_box(text), black_box(&mut *output)));
+    }
+}
+
+/// Writes each text to a file of its own: sheets `.txt`, exports `.csv`.
+fn write_texts(folder: &str) -> Result<(), String> {
+    let sheets = [sheets::long(), sheets::short(), sheets::largest()];
+    let sheets = sheets.map(|group| (group, "txt"));
+    for (group, suffix) in sheets.into_iter().chain([(logs::full(), "csv")]) {
+        for (place, text) in group.texts.iter().enumerate() {
+            let file = Path::new(folder).join(format!("{}_{place:03}.{suffix}", group.name));
             let failed = |error| format!("{}: {error}", file.display());
-            std::fs::write(&file, sheet).map_err(failed)?;
+            std::fs::write(&file, text).map_err(failed)?;
         }
     }
     Ok(())

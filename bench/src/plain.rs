@@ -198,7 +198,7 @@ fn command(text: &[u8], keys: usize) -> Option<Command> {
 }
 
 /// A number of the full range.
-fn value(text: &[u8]) -> Option<i32> {
+pub fn value(text: &[u8]) -> Option<i32> {
     let (minus, digits) = match text.strip_prefix(b"-") {
         Some(digits) => (true, digits),
         None => (false, text),
@@ -221,7 +221,7 @@ fn value(text: &[u8]) -> Option<i32> {
     i32::try_from(if minus { -number } else { number }).ok()
 }
 
-fn small(text: &[u8], lowest: usize, highest: usize) -> Option<usize> {
+pub fn small(text: &[u8], lowest: usize, highest: usize) -> Option<usize> {
     let number = usize::try_from(value(text)?).ok()?;
     (lowest..=highest).contains(&number).then_some(number)
 }

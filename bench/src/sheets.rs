@@ -14,36 +14,36 @@ const OF_A_KIND: usize = 50;
 /// A long run uses at least this many positions.
 const LONG_POSITIONS: u32 = 1_000;
 
-/// Some sheets, and what their runs come to.
-pub struct Sheets {
+/// Some sheets, and what their runs come to; or some exports, which have no positions.
+pub struct Group {
     pub name: &'static str,
-    pub sheets: Vec<Vec<u8>>,
+    pub texts: Vec<Vec<u8>>,
     pub bytes: usize,
     pub positions: u64,
 }
 
-impl Sheets {
-    fn new(name: &'static str) -> Sheets {
-        Sheets {
+impl Group {
+    pub fn new(name: &'static str) -> Group {
+        Group {
             name,
-            sheets: Vec::new(),
+            texts: Vec::new(),
             bytes: 0,
             positions: 0,
         }
     }
 
-    fn add(&mut self, sheet: Vec<u8>, positions: u32) {
-        self.bytes += sheet.len();
+    pub fn add(&mut self, text: Vec<u8>, positions: u32) {
+        self.bytes += text.len();
         self.positions += u64::from(positions);
-        self.sheets.push(sheet);
+        self.texts.push(text);
     }
 }
 
 /// The long half: runs that use at least 1,000 positions, by the reference model.
-pub fn long() -> Sheets {
+pub fn long() -> Group {
     let mut rng = Rng::new(SEED);
-    let mut long = Sheets::new("long");
-    while long.sheets.len() < HALF {
+    let mut long = Group::new("long");
+    while long.texts.len() < HALF {
         let sheet = accepted(&mut rng, Shape::LongRun);
         let positions = positions(&sheet);
         if positions >= LONG_POSITIONS {
@@ -54,11 +54,11 @@ pub fn long() -> Sheets {
 }
 
 /// The short half: small, medium and large sheets in turn, as their programs end.
-pub fn short() -> Sheets {
+pub fn short() -> Group {
     let mut rng = Rng::new(SEED + 1);
-    let mut short = Sheets::new("short");
-    while short.sheets.len() < HALF {
-        let shape = [Shape::Small, Shape::Medium, Shape::Large][short.sheets.len() % 3];
+    let mut short = Group::new("short");
+    while short.texts.len() < HALF {
+        let shape = [Shape::Small, Shape::Medium, Shape::Large][short.texts.len() % 3];
         let sheet = accepted(&mut rng, shape);
         let positions = positions(&sheet);
         if positions < LONG_POSITIONS {
@@ -70,7 +70,7 @@ pub fn short() -> Sheets {
 
 /// The largest sheet: as many lines of every kind as the rules allow, each as long as it can be. The
 /// program stops at once, so that reading is nearly all of the work.
-pub fn largest() -> Sheets {
+pub fn largest() -> Group {
     let entries: Vec<String> = (0..MOST_KEYS)
         .map(|key| format!("{key}:{LOWEST}"))
         .collect();
@@ -84,14 +84,14 @@ pub fn largest() -> Sheets {
     let sheet =
         format!("sheet=1\nkeys={MOST_KEYS}\n{secrets}do=stop\n{commands}{messages}turns={turns}\n");
     let positions = positions(sheet.as_bytes());
-    let mut largest = Sheets::new("largest");
+    let mut largest = Group::new("largest");
     largest.add(sheet.into_bytes(), positions);
     largest
 }
 
 /// Long runs by the kind of their turns: a letter that can be foretold costs a processor less than
 /// one that cannot, and calls cost more than other commands.
-pub fn kinds() -> Vec<Sheets> {
+pub fn kinds() -> Vec<Group> {
     vec![
         kind("LH", |_, job| {
             job.turns = letters(|turn| turn % 2 == 0);
@@ -115,10 +115,10 @@ fn letters(mut low: impl FnMut(usize) -> bool) -> Vec<Level> {
 }
 
 /// Sheets whose jobs are changed so, and whose runs are long then too.
-fn kind(name: &'static str, change: fn(&mut Rng, &mut Job)) -> Sheets {
+fn kind(name: &'static str, change: fn(&mut Rng, &mut Job)) -> Group {
     let mut rng = Rng::new(SEED + 2);
-    let mut sheets = Sheets::new(name);
-    while sheets.sheets.len() < OF_A_KIND {
+    let mut sheets = Group::new(name);
+    while sheets.texts.len() < OF_A_KIND {
         let mut job = accepted_job(&mut rng, Shape::LongRun);
         change(&mut rng, &mut job);
         let sheet = sheet_of(&job);

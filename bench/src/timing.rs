@@ -1,46 +1,46 @@
 //! Times both sides, in turn, so that a slow moment of the machine falls on both.
 
-use crate::sheets::Sheets;
-use crate::{archive, pass, plain, Side, LENT};
+use crate::sheets::Group;
+use crate::{pass, Side, Sides, LENT};
 use std::time::Instant;
 
 /// Rounds, of which the best and the middle one count.
 const ROUNDS: usize = 41;
-/// Passes over the sheets in one measurement.
+/// Passes over the texts in one measurement.
 const PASSES: usize = 4;
 
-fn seconds(side: Side, half: &Sheets) -> f64 {
+fn seconds<const N: usize>(side: Side<N>, group: &Group) -> f64 {
     let mut output = vec![0; LENT];
     let start = Instant::now();
     for _ in 0..PASSES {
-        pass(side, half, &mut output);
+        pass(side, group, &mut output);
     }
     start.elapsed().as_secs_f64() / PASSES as f64
 }
 
-/// What a table says of some groups of sheets together: its name, and the places of the groups.
+/// What a table says of some groups of texts together: its name, and the places of the groups.
 pub struct Row(pub &'static str, pub &'static [usize]);
 
 /// Measures both sides on each group and says what came of it, row by row.
-pub fn report(groups: &[Sheets], table: &[Row]) -> String {
+pub fn report<const N: usize>(sides: &Sides<N>, groups: &[Group], table: &[Row]) -> String {
     let (mut ours, mut theirs) = (Vec::new(), Vec::new());
     for round in 0..ROUNDS {
         let measure =
             |side| -> Vec<f64> { groups.iter().map(|group| seconds(side, group)).collect() };
         if round % 2 == 0 {
-            ours.push(measure(archive));
-            theirs.push(measure(plain));
+            ours.push(measure(sides.archive));
+            theirs.push(measure(sides.plain));
         } else {
-            theirs.push(measure(plain));
-            ours.push(measure(archive));
+            theirs.push(measure(sides.plain));
+            ours.push(measure(sides.archive));
         }
     }
-    let mut said = "microseconds per sheet:      archive      plain  archive/plain\n".to_string();
+    let mut said = "microseconds per text:       archive      plain  archive/plain\n".to_string();
     for Row(name, places) in table {
-        let sheets = places.iter().map(|&place| groups[place].sheets.len()).sum();
+        let texts = places.iter().map(|&place| groups[place].texts.len()).sum();
         said += &rows(
             name,
-            sheets,
+            texts,
             &summed(&ours, places),
             &summed(&theirs, places),
         );
@@ -57,12 +57,12 @@ fn summed(rounds: &[Vec<f64>], places: &[usize]) -> Vec<f64> {
 }
 
 /// The best round and the middle one of each side.
-fn rows(name: &str, sheets: usize, ours: &[f64], theirs: &[f64]) -> String {
+fn rows(name: &str, texts: usize, ours: &[f64], theirs: &[f64]) -> String {
     let row = |what: &str, place: usize| {
         let (ours, theirs) = (ours[place], theirs[place]);
-        let each = |seconds: f64| seconds * 1e6 / sheets as f64;
+        let each = |seconds: f64| seconds * 1e6 / texts as f64;
         let (our, their, ratio) = (each(ours), each(theirs), ours / theirs);
-        format!("{sheets:>4} {name:<6} {what:<10} {our:>12.3} {their:>10.3} {ratio:>14.3}\n")
+        format!("{texts:>4} {name:<6} {what:<10} {our:>12.3} {their:>10.3} {ratio:>14.3}\n")
     };
     row("best", 0) + &row("median", ROUNDS / 2)
 }
