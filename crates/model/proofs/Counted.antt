@@ -10,10 +10,10 @@ use Rattle.model.specs.{Step.callOf, Step.callsBy, Step.does, Job.Job, S
 use Rattle.model.specs.{State.command}
 use Rattle.model.specs.{State.stopped, State.refill, State.Role, State.leads, State.follows, State.role, State.leader, State.at, State.put, State.takenOf}
 use Rattle.model.specs.{State.takes}
-use Rattle.model.specs.{State.sends, State.stepsBy, State.process, Run.Outcome, Run.share, Run.lead, Run.followed, Run.follow, Run.moved, Run.turn, Run.ended}
-use Rattle.model.specs.{Run.settle, Run.run, Run.initial, Run.fresh, Run.runJob, Message.received, Message.receive, Message.columns, Message.lineNow}
+use Rattle.model.specs.{State.sends, State.stepsBy, State.process, Run.Outcome, Run.share, Run.lead, Run.followed, Run.following, Run.moved, Run.turnBy, Run.turn, Run.ended}
+use Rattle.model.specs.{Run.settle, Run.runBy, Run.run, Run.initial, Run.fresh, Run.runJobBy, Run.runJob, Message.received, Message.receive, Message.columns, Message.lineNow}
 use Rattle.model.specs.{Message.send, Line.lineLength}
-use Rattle.model.specs.{Verdict.short, Verdict.lacking, Verdict.noRoom, Verdict.verdictBy, Verdict.verdict, Verdict.idles, Counted.lowsBy, Counted.lows}
+use Rattle.model.specs.{Verdict.short, Verdict.lacking, Verdict.noRoom, Verdict.verdictBy, Verdict.verdict, Verdict.waits, Verdict.idles, Counted.lowsBy, Counted.lows}
 use Rattle.model.specs.{Counted.Counted}
 use Rattle.model.specs.Data.{Entry, Key, Command, Call, Neither, Receives, Sends, Level, Low, High, Ending, Stopped, LettersUsed, NoRoom, Clock}
 use Rattle.model.proofs.{Accepted.every-snoc, Levels.Changed, Levels.same, Levels.other, Levels.changed, Levels.at-each, Turn.clock-kept, Turn.turn-clock}
@@ -115,14 +115,14 @@ module _ (ks : List Key) (lent all : ℕ) where
 
     followed-calls : (first p : Process) → followed cs first p .execution .calls ≤ p .execution .calls + 1
     unfolding followed
-    followed-calls first p = go (idles (stopped cs p) (callOf (command cs p .op)) (first .execution .calls) (p .execution .calls))
+    followed-calls first p = go (idles (stopped cs p) (waits (callOf (command cs p .op)) (first .execution .calls) (p .execution .calls)))
       where
         go : (b : Bool) → cond b p (step (length cs) (command cs p) p) .execution .calls ≤ p .execution .calls + 1
         go true = omega arith
         go false = step-calls (length cs) (command cs p) p
 
-    after-move : (r : Role) (l : Level) (s : State) → Roomy r s → Reached ks lent all s → Moved s (moved r ks cs l s)
-    unfolding lead follow
+    after-move : (r : Role) (l : Level) (s : State) → Roomy r s → Reached ks lent all s → Moved s (moved following r ks cs l s)
+    unfolding lead
     after-move leads l s e h =
         let c = command cs (process leader s) in
         let m = shared (callOf (c .op)) s e h in
@@ -155,7 +155,7 @@ module _ (ks : List Key) (lent all : ℕ) where
     one-step follows = zero-le
 
     pub turn-reached : (l : Level) (s : State) → Roomy (role l) s → Reached ks lent all s → Reached ks lent all (turn ks cs l s)
-    unfolding turn
+    unfolding turnBy
     turn-reached l s e h =
         let m = after-move (role l) l s e h in
         let c = ap (λ (t : Clock). t .positions) (clock-kept ks cs s (role l) l) in
@@ -237,14 +237,14 @@ module _ (ks : List Key) (lent all : ℕ) where
     settle-from false false false s ls x h f = f refl
 
     run-from : (s : State) (ls : List Level) → Reached ks lent all s → From ks lent all s ls (run ks cs lent s ls)
-    unfolding run verdict noRoom
+    unfolding runBy verdict noRoom
     run-from s [] h = settle-from (stopped cs (process leader s)) true false s [] _ h (λ e. ended-from LettersUsed s [] h)
     run-from s (l ∷ ls) h =
         settle-from (stopped cs (process leader s)) false _ s (l ∷ ls) _ h
         (λ e. turn-from l s ls _ (run-from (turn ks cs l s) ls (turn-reached ks lent all cs l s e h)))
 
 pub counts-of : (j : Job) (lent : ℕ) → Counted j lent
-unfolding runJob lineLength initial
+unfolding runJobBy lineLength initial
 counts-of j lent =
     let all : ℕ = length (j .messages) in
     let s : State = initial (j .keys) (j .messages) in

@@ -42,7 +42,7 @@ unfolding Text.bytes Text.classOf Text.same Text.find Text.divide Text.split Tex
     State.entry State.refill State.step State.command State.stopped State.at State.put State.each State.takes State.sends
     Message.shown Message.fill Message.received Message.receive Message.source Message.columns Message.lineNow Message.send
     Verdict.waits Verdict.short Verdict.idles Verdict.noRoom Verdict.verdict
-    Run.share Run.lead Run.followed Run.follow Run.turn Run.ended Run.run Run.fresh Run.initial Run.runJob
+    Run.share Run.lead Run.followed Run.turnBy Run.ended Run.runBy Run.fresh Run.initial Run.runJobBy
     Decimal.digits Decimal.widthTo Decimal.width Decimal.natural Placed.front
     Line.lineLength Line.sign Line.cell Line.cells Line.heading Line.lineBytes Line.bytesOf Line.memoryAfter
     Answer.numbersOf Answer.runSheet Answer.spaced Answer.report Answer.printed

@@ -7,9 +7,9 @@ use lib.{ListN.length, ListN.getD, ListN.drop, Seq.getD-drop}
 use native.Mathlib.Numerals.{one-add}
 use Rattle.model.specs.{Step.callOf, State.Process, State.Sent, State.Incoming, State.Outgoing, State.State, State.fieldsOf, State.refill, State.step}
 use Rattle.model.specs.{State.command, State.Role, State.leads, State.follows, State.role, State.leader, State.takenOf, State.takes}
-use Rattle.model.specs.{State.sends, State.ticked, State.process, State.withProcess, Run.Outcome, Run.share, Run.counted, Run.lead, Run.followed, Run.follow}
+use Rattle.model.specs.{State.sends, State.ticked, State.process, State.withProcess, Run.Outcome, Run.share, Run.counted, Run.lead, Run.followed, Run.Rule, Run.following}
 use Rattle.model.specs.{Run.moved}
-use Rattle.model.specs.{Run.turn, Run.ended, Run.settle, Run.run, Run.initial, Message.shown, Message.source, Message.fill, Message.received, Message.receive}
+use Rattle.model.specs.{Run.turnBy, Run.ended, Run.settle, Run.runBy, Run.initial, Message.shown, Message.source, Message.fill, Message.received, Message.receive}
 use Rattle.model.specs.{Message.columns, Message.lineNow, Message.send, Line.lineLength, Verdict.Verdict, Verdict.GoesOn, Verdict.Ends, Verdict.lacking}
 use Rattle.model.specs.{Verdict.noRoom}
 use Rattle.model.specs.Verdict.{verdict}
@@ -150,20 +150,23 @@ module _ (o : Level) (hid : Low ≢ o) (ks : List Key) where
   lead-alike n c s t h = let g = share-alike (callOf (c .op)) s t h in with-alike leader _ _ _ _ (λ lo. ap (step n c) (g .processes leader hid)) g
 
   module _ (cs : List Command) where
-    -- At any other execution: o's own turn changes nothing that the others see, and theirs start from equal processes
-    follow-alike : (l : Level) (s t : State) → Like o ks s t → Like o ks (follow cs l s) (follow cs l t)
-    unfolding follow
-    follow-alike l s t h = with-alike l _ _ s t (λ lo. ap₂ (followed cs) (h .processes leader hid) (h .processes l lo)) h
+    -- At any other execution: what two rules make of it is the same, unless it is o's own, which changes nothing that the others see
+    abbrev pub RulesAgree : Rule → Rule → Type 0
+    RulesAgree f g = (l : Level) → role l ≡ follows → l ≢ o → (s t : State) → Like o ks s t → f cs l s ≡ g cs l t
 
-    moved-alike : (r : Role) (l : Level) (s t : State) → Like o ks s t → Like o ks (moved r ks cs l s) (moved r ks cs l t)
-    moved-alike leads l s t h =
+    -- two runs by one rule: the others' turns start from equal processes
+    pub same-rule : RulesAgree following following
+    same-rule l r lo s t h = ap₂ (followed cs) (h .processes leader hid) (h .processes l lo)
+
+    moved-alike : (f g : Rule) → RulesAgree f g → (r : Role) (l : Level) → role l ≡ r → (s t : State) → Like o ks s t → Like o ks (moved f r ks cs l s) (moved g r ks cs l t)
+    moved-alike f g agree leads l e s t h =
         let led : Process → State → State = λ p. lead ks (length cs) (command cs p) in
         subst (λ (p : Process). Like o ks (led (process leader s) s) (led p t)) (h .processes leader hid) (lead-alike (length cs) _ s t h)
-    moved-alike follows l s t h = follow-alike l s t h
+    moved-alike f g agree follows l e s t h = with-alike l _ _ s t (λ lo. agree l e lo s t h) h
 
-    turn-alike : (l : Level) (s t : State) → Like o ks s t → Like o ks (turn ks cs l s) (turn ks cs l t)
-    unfolding turn
-    turn-alike l s t h = counted-alike l _ _ (moved-alike (role l) l s t h)
+    turn-alike : (f g : Rule) → RulesAgree f g → (l : Level) (s t : State) → Like o ks s t → Like o ks (turnBy f ks cs l s) (turnBy g ks cs l t)
+    unfolding turnBy
+    turn-alike f g agree l s t h = counted-alike l _ _ (moved-alike f g agree (role l) l refl s t h)
 
     -- ---- The endings
 
@@ -190,10 +193,11 @@ module _ (o : Level) (hid : Low ≢ o) (ks : List Key) where
 
     -- ---- The induction over the turns
 
-    pub run-alike : (room : ℕ) (ls : List Level) (s t : State) → Like o ks s t → Same o ks (run ks cs room s ls) (run ks cs room t ls)
-    unfolding run
-    run-alike room [] s t h = settle-alike s t _ _ (verdict-alike room [] s t h) h (ended-alike LettersUsed s t h)
-    run-alike room (l ∷ ls) s t h = settle-alike s t _ _ (verdict-alike room (l ∷ ls) s t h) h (run-alike room ls (turn ks cs l s) (turn ks cs l t) (turn-alike l s t h))
+    pub run-alike : (f g : Rule) → RulesAgree f g → (room : ℕ) (ls : List Level) (s t : State) → Like o ks s t → Same o ks (runBy f ks cs room s ls) (runBy g ks cs room t ls)
+    unfolding runBy
+    run-alike f g agree room [] s t h = settle-alike s t _ _ (verdict-alike room [] s t h) h (ended-alike LettersUsed s t h)
+    run-alike f g agree room (l ∷ ls) s t h =
+        settle-alike s t _ _ (verdict-alike room (l ∷ ls) s t h) h (run-alike f g agree room ls (turnBy f ks cs l s) (turnBy g ks cs l t) (turn-alike f g agree l s t h))
 
   pub initial-alike : (a b : List (List Entry)) → RestLike o ks a b → Like o ks (initial ks a) (initial ks b)
   unfolding initial

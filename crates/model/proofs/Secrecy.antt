@@ -5,10 +5,10 @@ use mathlib.Core.Logic.{_≢_}
 use mathlib.Core.List.{List, [], _∷_}
 use lib.ListN.{length, getD, drop, length-append}
 use native.Mathlib.{Omega.arith, Nat.suc-inj}
-use Rattle.model.specs.{Job.Job, Run.Outcome, Run.runJob, Message.source, Line.lineLength, Line.bytesOf, Line.memoryAfter, Placed.front, Answer.leftBy, Answer.numbersOf}
+use Rattle.model.specs.{Job.Job, Run.Outcome, Run.Rule, Run.following, Run.runJobBy, Run.runJob, Message.source, Line.lineLength, Line.bytesOf, Line.memoryAfter, Placed.front, Answer.leftBy, Answer.numbersOf}
 use Rattle.model.specs.{Answer.runSheet, Secrecy.OwnedBy, Secrecy.Hidden, Secrecy.Indistinguishable, Secrecy.SecrecyOf, Secrecy.SheetSecrecyOf}
 use Rattle.model.specs.Data.{Entry, Key, Open, Secret, Level, Low, High, Ending, Counts, Ended}
-use Rattle.model.proofs.{Lockstep.LineLike, Lockstep.RestLike, Lockstep.Same, Lockstep.run-alike, Lockstep.initial-alike, Levels.low≢high, Line.split}
+use Rattle.model.proofs.{Lockstep.LineLike, Lockstep.RestLike, Lockstep.Same, Lockstep.same-rule, Lockstep.run-alike, Lockstep.initial-alike, Levels.low≢high, Line.split, Line.same-size}
 use Rattle.model.proofs.{Line.bytes-at, Counted.counts-of}
 
 -- a key is o's secret exactly where its column comes from o's execution
@@ -34,9 +34,9 @@ abbrev Exact : Outcome → Type 0
 Exact x = length (bytesOf (x .lines)) ≡ x .counts .bytes
 
 -- what two outcomes that are the same to all but o leave of one memory
-module _ (o : Level) (ks : List Key) (m : List ℕ) (x y : Outcome) (hid : Low ≢ o) (same : Same o ks x y) (ex : Exact x) (ey : Exact y) where
+module _ (o : Level) (ks : List Key) (m : List ℕ) (x y : Outcome) (hid : Low ≢ o) (same : Same o ks x y) (ex : Exact x) where
   size : length (bytesOf (y .lines)) ≡ x .counts .bytes
-  size = ey ∙ sym (ap (λ (c : Counts). c .bytes) (same .counts))
+  size = sym (same-size o (same .lines)) ∙ ex
 
   memory-size : length (memoryAfter m (x .lines)) ≡ length (memoryAfter m (y .lines))
   unfolding memoryAfter front
@@ -63,11 +63,11 @@ abbrev Hides : Level → List ℕ → Job → Job → Type 0
 Hides o m a b = Indistinguishable o (a .keys) (leftBy m (runJob a (length m))) (leftBy m (runJob b (length m)))
 
 messages-alike : (o : Level) → Low ≢ o → (a : Job) (ms : List (List Entry)) (m : List ℕ) → RestLike o (a .keys) (a .messages) ms → Hides o m a (given a ms)
-unfolding runJob
+unfolding runJobBy
 messages-alike o hid a ms m r =
     indistinguishable o (a .keys) m _ _ hid
-    (run-alike o hid (a .keys) (a .commands) (length m) (a .turns) _ _ (initial-alike o hid (a .keys) (a .messages) ms r))
-    (counts-of a (length m) .sent) (counts-of (given a ms) (length m) .sent)
+    (run-alike o hid (a .keys) (a .commands) following following (same-rule o hid (a .keys) (a .commands)) (length m) (a .turns) _ _ (initial-alike o hid (a .keys) (a .messages) ms r))
+    (counts-of a (length m) .sent)
 
 pub secrecy-of : (o : Level) → Low ≢ o → SecrecyOf o
 secrecy-of o hid a b m h =

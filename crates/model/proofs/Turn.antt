@@ -8,8 +8,8 @@ use lib.{IntN.ℤ, IntN.pos, ListN.length, ListN.getD, Seq.set-getD}
 use Rattle.model.specs.{Step.variable, Step.calledOf, Step.made, Step.effectBy, Step.steppedBy, Step.does, Step.callOf, Step.callsBy, State.Process, State.Processes}
 use Rattle.model.specs.{State.entry, State.stored, State.step, State.command, State.stopped, State.Role, State.leads, State.follows, State.role, State.leader}
 use Rattle.model.specs.{State.ticked, State.State}
-use Rattle.model.specs.{State.process, State.withProcess, Message.receive, Message.send, Verdict.idles, Run.share, Run.lead, Run.followed, Run.follow, Run.moved}
-use Rattle.model.specs.{Run.counted, Run.turn}
+use Rattle.model.specs.{State.process, State.withProcess, Message.receive, Message.send, Verdict.waits, Verdict.idles, Run.share, Run.lead, Run.followed, Run.moved}
+use Rattle.model.specs.{Run.following, Run.counted, Run.turnBy, Run.turn}
 use Rattle.model.specs.Data.{Entry, Absent, Key, Op, Set, Add, Sub, Mul, Div, Read, Has, Put, Drop, IfNeg, IfZero, Jump, Receive, Send, Stop, Command, Call, Neither}
 use Rattle.model.specs.Data.{Receives, Sends, Level, Low, High, Execution}
 use Rattle.model.proofs.Levels.{put-at}
@@ -65,7 +65,7 @@ module _ (ks : List Key) (cs : List Command) (s : State) where
 
   -- whether the turn of a level that follows passes idle
   abbrev pub idlesAt : Level → Bool
-  idlesAt l = idles (stopped cs (process l s)) (callAt l) (process leader s .execution .calls) (process l s .execution .calls)
+  idlesAt l = idles (stopped cs (process l s)) (waits (callAt l) (process leader s .execution .calls) (process l s .execution .calls))
 
   -- a level's execution does its command and nothing else: where it leads, no call; where it follows, no idling
   abbrev pub Alone : Role → Level → Type 0
@@ -81,19 +81,19 @@ module _ (ks : List Key) (cs : List Command) (s : State) where
   led k = let t = share k ks s in counted leader (withProcess leader (step (length cs) (command cs (process leader s)) (process leader t)) t)
 
   leading : (k : Call) → callAt leader ≡ k → turn ks cs leader s ≡ led k
-  unfolding turn lead
+  unfolding turnBy lead
   leading k e = ap led e
 
   abbrev followedBy : Level → Bool → State
   followedBy l b = counted l (withProcess l (cond b (process l s) (stepped l)) s)
 
   pub turn-alone : (l : Level) → Alone (role l) l → turn ks cs l s ≡ counted l (withProcess l (stepped l) s)
-  unfolding turn follow followed share
+  unfolding turnBy followed share
   turn-alone Low e = leading Neither e
   turn-alone High e = ap (followedBy High) e
 
   pub turn-idle : (l : Level) → role l ≡ follows → idlesAt l ≡ true → turn ks cs l s ≡ counted l s
-  unfolding turn follow followed
+  unfolding turnBy followed
   turn-idle Low f e = absurd (leads-not-follows f)
   turn-idle High f e =
       ap (followedBy High) e
@@ -112,8 +112,8 @@ module _ (ks : List Key) (cs : List Command) (s : State) where
       ∙ ap (λ (p : Process). counted leader (withProcess leader p (send ks s))) (call-step (length cs) (command cs (process leader s)) (process leader s) Sends e refl)
 
   -- every kind of turn moves the clock, and nothing else does
-  pub clock-kept : (r : Role) (l : Level) → moved r ks cs l s .clock ≡ s .clock
-  unfolding lead follow share receive send
+  pub clock-kept : (r : Role) (l : Level) → moved following r ks cs l s .clock ≡ s .clock
+  unfolding lead share receive send
   clock-kept leads l = go (callAt leader)
     where
       go : (k : Call) → share k ks s .clock ≡ s .clock
@@ -123,5 +123,5 @@ module _ (ks : List Key) (cs : List Command) (s : State) where
   clock-kept follows l = refl
 
   pub turn-clock : (l : Level) → turn ks cs l s .clock ≡ ticked l (s .clock)
-  unfolding turn
+  unfolding turnBy
   turn-clock l = ap (ticked l) (clock-kept (role l) l)

@@ -5,7 +5,7 @@ use mathlib.Core.Bool.{cond}
 use lib.ListN.{length, replicate}
 use Rattle.model.specs.{State.Process, State.step, State.command, State.stopped, State.Role, State.leads, State.follows, State.role, State.leader, State.Sent}
 use Rattle.model.specs.{State.started, State.ticked, State.State, State.process, State.withProcess, State.withClock, Message.receive, Message.send, Step.callOf}
-use Rattle.model.specs.{Step.begun, Verdict.Verdict, Verdict.GoesOn, Verdict.Ends, Verdict.verdict, Verdict.idles, Job.Job}
+use Rattle.model.specs.{Step.begun, Verdict.Verdict, Verdict.GoesOn, Verdict.Ends, Verdict.verdict, Verdict.waits, Verdict.idles, Job.Job}
 use Rattle.model.specs.Data.{Entry, Absent, Key, Command, Call, Neither, Receives, Sends, Level, Ending, LettersUsed, Counts}
 
 -- ---- Turns
@@ -22,22 +22,29 @@ lead ks n c s = let t = share (callOf (c .op)) ks s in withProcess leader (step 
 
 -- *H turn.* "The high execution does its command. A `receive` or `send` of its own has no effect but to move it on."
 unfoldable pub followed : List Command → Process → Process → Process
-followed cs first p = cond (idles (stopped cs p) (callOf (command cs p .op)) (first .execution .calls) (p .execution .calls)) p (step (length cs) (command cs p) p)
+followed cs first p = cond (idles (stopped cs p) (waits (callOf (command cs p .op)) (first .execution .calls) (p .execution .calls))) p (step (length cs) (command cs p) p)
 
-unfoldable pub follow : List Command → Level → State → State
-follow cs l s = withProcess l (followed cs (process leader s) (process l s)) s
+-- A rule for the executions that follow: what the turn of a level makes of its process, from the state before it. By its type it changes nothing else.
+abbrev pub Rule : Type 0
+Rule = List Command → Level → State → Process
 
--- by the role of the level whose turn it is
-abbrev pub moved : Role → List Key → List Command → Level → State → State
-moved leads ks cs l s = lead ks (length cs) (command cs (process leader s)) s
-moved follows ks cs l s = follow cs l s
+abbrev pub following : Rule
+following cs l s = followed cs (process leader s) (process l s)
+
+-- by the role of the level whose turn it is, and a rule for those that follow
+abbrev pub moved : Rule → Role → List Key → List Command → Level → State → State
+moved f leads ks cs l s = lead ks (length cs) (command cs (process leader s)) s
+moved f follows ks cs l s = withProcess l (f cs l s) s
 
 -- the clock goes on
 abbrev pub counted : Level → State → State
 counted l s = withClock (ticked l (s .clock)) s
 
-unfoldable pub turn : List Key → List Command → Level → State → State
-turn ks cs l s = counted l (moved (role l) ks cs l s)
+unfoldable pub turnBy : Rule → List Key → List Command → Level → State → State
+turnBy f ks cs l s = counted l (moved f (role l) ks cs l s)
+
+abbrev pub turn : List Key → List Command → Level → State → State
+turn ks cs l s = turnBy following ks cs l s
 
 -- ---- The whole run
 
@@ -60,9 +67,12 @@ settle (Ends e) s o = ended e s
 settle GoesOn s o = o
 
 -- "Letters of `turns` are used one by one". Where none is left the verdict is an ending.
-unfoldable pub run : List Key → List Command → ℕ → State → List Level → Outcome
-run ks cs room s [] = settle (verdict ks cs room [] s) s (ended LettersUsed s)
-run ks cs room s (l ∷ ls) = let o = run ks cs room (turn ks cs l s) ls in settle (verdict ks cs room (l ∷ ls) s) s o
+unfoldable pub runBy : Rule → List Key → List Command → ℕ → State → List Level → Outcome
+runBy f ks cs room s [] = settle (verdict ks cs room [] s) s (ended LettersUsed s)
+runBy f ks cs room s (l ∷ ls) = let o = runBy f ks cs room (turnBy f ks cs l s) ls in settle (verdict ks cs room (l ∷ ls) s) s o
+
+abbrev pub run : List Key → List Command → ℕ → State → List Level → Outcome
+run ks cs room s ls = runBy following ks cs room s ls
 
 -- "All fields are absent at first."
 unfoldable pub fresh : List Key → Process
@@ -78,5 +88,8 @@ initial ks ms =
       clock = started;
     }
 
-unfoldable pub runJob : Job → ℕ → Outcome
-runJob j room = run (j .keys) (j .commands) room (initial (j .keys) (j .messages)) (j .turns)
+unfoldable pub runJobBy : Rule → Job → ℕ → Outcome
+runJobBy f j room = runBy f (j .keys) (j .commands) room (initial (j .keys) (j .messages)) (j .turns)
+
+abbrev pub runJob : Job → ℕ → Outcome
+runJob j room = runJobBy following j room

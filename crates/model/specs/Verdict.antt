@@ -48,5 +48,5 @@ waits Receives low own = leb low own
 waits Sends low own = leb low own
 
 -- "Otherwise the turn passes idle. A stopped high execution also idles."
-unfoldable pub idles : Bool → Call → ℕ → ℕ → Bool
-idles atEnd call low own = cond atEnd true (waits call low own)
+unfoldable pub idles : Bool → Bool → Bool
+idles atEnd waiting = cond atEnd true waiting

@@ -12,7 +12,7 @@ use Rattle.model.specs.{State.Process, State.Sent, State.command, State.stopped
 use Rattle.model.specs.{Line.lineBytes}
 use Rattle.model.specs.{Line.bytesOf, Line.memoryAfter, Verdict.GoesOn, Verdict.Ends, Verdict.Verdict, Verdict.short, Verdict.allUsed, Verdict.lacking, Verdict.noRoom}
 use Rattle.model.specs.{Verdict.verdictBy}
-use Rattle.model.specs.{Verdict.verdict, Run.turn, Run.ended, Run.run, Run.fresh, Run.initial, Run.runJob, Answer.left, Answer.leftBy}
+use Rattle.model.specs.{Verdict.verdict, Run.turn, Run.ended, Run.runBy, Run.run, Run.fresh, Run.initial, Run.runJobBy, Run.runJob, Answer.left, Answer.leftBy}
 use Rattle.model.specs.State as State
 use Rattle.model.specs.declared.{Entry.the-variants.Absent, Field.Field, Key.Key, Command.Command, Level.Level, Execution.Execution, Clock.Clock}
 use Rattle.model.specs.declared.{Ending.Ending, Answer.Answer, Answer.the-variants.Ended, StoredJob.StoredJob}
@@ -36,12 +36,12 @@ bytes-append (x ∷ xs) ys = ap (λ (r : List ℕ). lineBytes x ++ r) (bytes-app
 
 module _ (ks : List Key) (cs : List Command) (room : ℕ) where
   settled : (s : State) (rest : List Level) (e : Ending) → verdict ks cs room rest s ≡ Ends e → run ks cs room s rest ≡ ended e s
-  unfolding run
+  unfolding runBy
   settled s [] e v = rw v
   settled s (l ∷ rest) e v = rw v
 
   taken-on : (s : State) (l : Level) (rest : List Level) → verdict ks cs room (l ∷ rest) s ≡ GoesOn → run ks cs room s (l ∷ rest) ≡ run ks cs room (turn ks cs l s) rest
-  unfolding run
+  unfolding runBy
   taken-on s l rest v = rw v
 
 -- only a send needs room
@@ -73,7 +73,7 @@ module _ {j : StoredJob} (ok : Ready j) where
 
   pub begins : (out₀ : List ℕ) (low high : Execution) (message : List Field) (clock : Clock) → low ≡ begun → high ≡ begun → Cleared message → clock ≡ started
       → Kept j out₀ (record { low = low; high = high; message = message; taken = 0; bytes = 0; clock = clock }) out₀
-  unfolding runJob bytesOf stateOf initial fresh
+  unfolding runJobBy bytesOf stateOf initial fresh
   begins out₀ low high message clock el eh em ec =
       record {
         sent = [];

@@ -104,7 +104,7 @@ module _ {j : StoredJob} (ok : Ready j) (sent : List Sent) (h : Held) where
     pub ends-idle : j .«command_count» ≤ x .place → idlesAt ks cs here l ≡ true
     unfolding idles stopped
     ends-idle end =
-        ap (λ (b : Bool). idles b (callAt ks cs here l) (process Low here .execution .calls) (process l here .execution .calls))
+        ap (λ (b : Bool). idles b (waits (callAt ks cs here l) (process Low here .execution .calls) (process l here .execution .calls)))
         (ap (λ (p : Process). leb (length cs) (p .execution .place)) (process-is l) ∙ le-leb (length cs) (x .place) (omega (arith, program-count ok)))
 
     module _ (live : x .place < j .«command_count») where
@@ -120,7 +120,7 @@ module _ {j : StoredJob} (ok : Ready j) (sent : List Sent) (h : Held) where
       unfolding idles stopped stateOf State.at
       waits-here =
           let going : stopped cs (process l here) ≡ false = ap (λ (p : Process). leb (length cs) (p .execution .place)) (process-is l) ∙ lt-leb (length cs) (x .place) (omega (arith, program-count ok)) in
-          ap₂ (λ (b : Bool) (p : Process). idles b (callAt ks cs here l) (h .low .calls) (p .execution .calls)) going (process-is l)
+          ap₂ (λ (b : Bool) (p : Process). idles b (waits (callAt ks cs here l) (h .low .calls) (p .execution .calls))) going (process-is l)
           ∙ ap (λ (k : Call). waits k (h .low .calls) (x .calls)) call-here
 
       -- ---- A command
