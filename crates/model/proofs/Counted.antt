@@ -10,23 +10,19 @@ use Rattle.model.specs.{Step.callOf, Step.callsBy, Step.does, Job.Job, S
 use Rattle.model.specs.{State.command}
 use Rattle.model.specs.{State.stopped, State.refill, State.Role, State.leads, State.follows, State.role, State.leader, State.at, State.put, State.takenOf}
 use Rattle.model.specs.{State.takes}
-use Rattle.model.specs.{State.sends, State.stepsBy, State.process, Run.Outcome, Run.share, Run.lead, Run.followed, Run.following, Run.moved, Run.turnBy, Run.turn, Run.ended}
-use Rattle.model.specs.{Run.settle, Run.runBy, Run.run, Run.initial, Run.fresh, Run.runJobBy, Run.runJob, Message.received, Message.receive, Message.columns, Message.lineNow}
+use Rattle.model.specs.{State.sends, State.stepsBy, State.process, State.noted, Run.Outcome, Run.share, Run.lead, Run.followed, Run.following, Run.moved, Run.turnBy, Run.turn, Run.ended}
+use Rattle.model.specs.{Run.settle, Run.runBy, Run.run, Run.initial, Run.fresh, Run.runJobBy, Run.runJob, Message.receive, Message.columns, Message.lineNow}
 use Rattle.model.specs.{Message.send, Line.lineLength}
-use Rattle.model.specs.{Verdict.short, Verdict.lacking, Verdict.noRoom, Verdict.verdictBy, Verdict.verdict, Verdict.waits, Verdict.idles, Counted.lowsBy, Counted.lows}
-use Rattle.model.specs.{Counted.Counted}
-use Rattle.model.specs.Data.{Entry, Key, Command, Call, Neither, Receives, Sends, Level, Low, High, Ending, Stopped, LettersUsed, NoRoom, Clock}
-use Rattle.model.proofs.{Accepted.every-snoc, Levels.Changed, Levels.same, Levels.other, Levels.changed, Levels.at-each, Turn.clock-kept, Turn.turn-clock}
-use Rattle.model.proofs.{Line.Lined, Line.bytes-length}
+use Rattle.model.specs.{Verdict.short, Verdict.lacking, Verdict.noRoom, Verdict.verdictBy, Verdict.verdict, Verdict.idles, Run.waitsAt, Counted.lowsBy, Counted.lows}
+use Rattle.model.specs.{Counted.Counted, CallKinds.afterTurns}
+use Rattle.model.specs.Data.{Entry, Key, Command, Call, Neither, Receives, Sends, Level, Low, High, Execution, Ending, Stopped, LettersUsed, NoRoom, Clock}
+use Rattle.model.proofs.{Accepted.every-snoc, Levels.Changed, Levels.same, Levels.other, Levels.changed, Turn.callsAt, Turn.step-calls}
+use Rattle.model.proofs.{Turn.share-execution, Turn.turn-kinds, Turn.clock-kept, Turn.turn-clock, Line.Lined, Line.bytes-length}
 
 columns-length : (i : ℕ) (ks : List Key) (f : Level → List Entry) → length (columns i ks f) ≡ length ks
 unfolding columns
 columns-length i [] f = refl
 columns-length i (k ∷ ks) f = ap suc (columns-length (suc i) ks f)
-
--- the calls that an execution has made
-abbrev callsAt : Level → State → ℕ
-callsAt l s = process l s .execution .calls
 
 -- ---- What holds of a state on the way, with so many bytes lent, of all message lines
 
@@ -38,6 +34,7 @@ pub record Reached (ks : List Key) (lent all : ℕ) (s : State) : Type 0 where
   pub sent : length (s .outgoing .sent) ≤ s .clock .positions
   pub steps : s .clock .steps ≤ s .clock .positions
   pub calls : (l : Level) → callsAt l s ≤ s .clock .positions
+  pub kinds : length (s .kinds) ≡ callsAt leader s
 
 module _ (ks : List Key) (lent all : ℕ) where
   -- what a turn makes of it before the clock goes on
@@ -63,13 +60,10 @@ module _ (ks : List Key) (lent all : ℕ) where
 
   -- a call of the leader: what it does to the message and the output counts no call yet
   shared-calls : (k : Call) (s : State) (l : Level) → callsAt l (share k ks s) ≡ callsAt l s
-  unfolding share receive refill send
-  shared-calls Neither s l = refl
-  shared-calls Receives s l = ap (λ (p : Process). p .execution .calls) (at-each (λ m. refill (received ks (s .incoming .rest) m)) l (s .processes))
-  shared-calls Sends s l = refl
+  shared-calls k s l = ap (λ (x : Execution). x .calls) (share-execution ks s k l)
 
   shared : (k : Call) (s : State) → short k (lent - s .outgoing .bytes) (lineLength ks) ≡ false → Reached ks lent all s → Moved s (share k ks s)
-  unfolding share receive refill send sends short lineNow
+  unfolding share receive refill send noted sends short lineNow
   shared Neither s e h = unmoved s h
   shared Receives s e h =
       record {
@@ -100,9 +94,8 @@ module _ (ks : List Key) (lent all : ℕ) where
   one-call Receives = le-refl 1
   one-call Sends = le-refl 1
 
-  step-calls : (n : ℕ) (c : Command) (p : Process) → step n c p .execution .calls ≤ p .execution .calls + 1
-  unfolding step does
-  step-calls n c p = omega (arith, one-call (callOf (c .op)))
+  step-most : (n : ℕ) (c : Command) (p : Process) → step n c p .execution .calls ≤ p .execution .calls + 1
+  step-most n c p = omega (arith, one-call (callOf (c .op)), step-calls n c p)
 
   put-calls : {l m : Level} → Changed l m → (p : Process) (ps : Processes) (f : Level → ℕ) → p .execution .calls ≤ f l → at m ps .execution .calls ≤ f m → at m (put l p ps) .execution .calls ≤ f m
   put-calls {l} {m} (same e g) p ps f new old = subst⁻¹ (λ (q : Process). q .execution .calls ≤ f m) (g p ps) (subst (λ (k : Level). p .execution .calls ≤ f k) e new)
@@ -113,13 +106,13 @@ module _ (ks : List Key) (lent all : ℕ) where
     abbrev Roomy : Role → State → Type 0
     Roomy r s = lacking r (callOf (command cs (process leader s) .op)) (lent - s .outgoing .bytes) (lineLength ks) ≡ false
 
-    followed-calls : (first p : Process) → followed cs first p .execution .calls ≤ p .execution .calls + 1
+    followed-calls : (kinds : List Call) (p : Process) → followed cs kinds p .execution .calls ≤ p .execution .calls + 1
     unfolding followed
-    followed-calls first p = go (idles (stopped cs p) (waits (callOf (command cs p .op)) (first .execution .calls) (p .execution .calls)))
+    followed-calls kinds p = go (idles (stopped cs p) (waitsAt cs kinds p))
       where
         go : (b : Bool) → cond b p (step (length cs) (command cs p) p) .execution .calls ≤ p .execution .calls + 1
         go true = omega arith
-        go false = step-calls (length cs) (command cs p) p
+        go false = step-most (length cs) (command cs p) p
 
     after-move : (r : Role) (l : Level) (s : State) → Roomy r s → Reached ks lent all s → Moved s (moved following r ks cs l s)
     unfolding lead
@@ -136,10 +129,9 @@ module _ (ks : List Key) (lent all : ℕ) where
           sent = m .sent;
           calls = λ n.
               put-calls (changed leader n) (step (length cs) c own) (t .processes) (λ k. callsAt k s + 1)
-              (omega (arith, step-calls (length cs) c own, shared-calls (callOf (c .op)) s leader)) (m .calls n);
+              (omega (arith, step-most (length cs) c own, shared-calls (callOf (c .op)) s leader)) (m .calls n);
         }
     after-move follows l s e h =
-        let first = process leader s in
         let p = process l s in
         record {
           lined = h .lined;
@@ -147,7 +139,7 @@ module _ (ks : List Key) (lent all : ℕ) where
           room = h .room;
           taken = h .taken;
           sent = omega arith;
-          calls = λ n. put-calls (changed l n) (followed cs first p) (s .processes) (λ k. callsAt k s + 1) (followed-calls first p) (omega arith);
+          calls = λ n. put-calls (changed l n) (followed cs (s .kinds) p) (s .processes) (λ k. callsAt k s + 1) (followed-calls (s .kinds) p) (omega arith);
         }
 
     one-step : (r : Role) → stepsBy r ≤ 1
@@ -168,12 +160,13 @@ module _ (ks : List Key) (lent all : ℕ) where
           sent = omega (arith, m .sent, h .sent, c);
           steps = omega (arith, h .steps, one-step (role l), c, d);
           calls = λ n. omega (arith, m .calls n, h .calls n, c);
+          kinds = turn-kinds ks cs l s (h .kinds);
         }
 
 pub reached-first : (ks : List Key) (lent : ℕ) (ms : List (List Entry)) → Reached ks lent (length ms) (initial ks ms)
 unfolding initial fresh at
 reached-first ks lent ms =
-    record { lined = tt; bytes = omega arith; room = zero-le; taken = omega arith; sent = zero-le; steps = zero-le; calls = fresh-calls }
+    record { lined = tt; bytes = omega arith; room = zero-le; taken = omega arith; sent = zero-le; steps = zero-le; calls = fresh-calls; kinds = refl }
   where
     fresh-calls : (l : Level) → callsAt l (initial ks ms) ≤ 0
     fresh-calls Low = zero-le
@@ -187,23 +180,27 @@ low-steps leads n = sym (one-add n)
 low-steps follows n = sym (zero-add n)
 
 -- What holds of an outcome that a run reaches from a state over the letters ls
-record From (ks : List Key) (lent all : ℕ) (s : State) (ls : List Level) (x : Outcome) : Type 0 where
-  used : ℕ
-  within : used ≤ length ls
-  positions : x .counts .positions ≡ s .clock .positions + used
-  steps : x .counts .steps ≡ s .clock .steps + lows (take used ls)
-  lined : Lined ks (x .lines)
-  bytes : x .counts .bytes ≡ lineLength ks * length (x .lines)
-  room : x .counts .bytes ≤ lent
-  taken : x .counts .taken ≤ all
+pub record From (ks : List Key) (cs : List Command) (lent all : ℕ) (s : State) (ls : List Level) (x : Outcome) : Type 0 where
+  pub used : ℕ
+  pub within : used ≤ length ls
+  pub ending : Ending
+  pub outcome : x ≡ ended ending (afterTurns ks cs (take used ls) s)
+  pub positions : x .counts .positions ≡ s .clock .positions + used
+  pub steps : x .counts .steps ≡ s .clock .steps + lows (take used ls)
+  pub lined : Lined ks (x .lines)
+  pub bytes : x .counts .bytes ≡ lineLength ks * length (x .lines)
+  pub room : x .counts .bytes ≤ lent
+  pub taken : x .counts .taken ≤ all
 
-module _ (ks : List Key) (lent all : ℕ) where
-  ended-from : (e : Ending) (s : State) (ls : List Level) → Reached ks lent all s → From ks lent all s ls (ended e s)
-  unfolding ended lows
+module _ (ks : List Key) (cs : List Command) (lent all : ℕ) where
+  ended-from : (e : Ending) (s : State) (ls : List Level) → Reached ks lent all s → From ks cs lent all s ls (ended e s)
+  unfolding ended lows afterTurns
   ended-from e s ls h =
       record {
         used = 0;
         within = zero-le;
+        ending = e;
+        outcome = refl;
         positions = omega arith;
         steps = omega arith;
         lined = h .lined;
@@ -212,44 +209,52 @@ module _ (ks : List Key) (lent all : ℕ) where
         taken = omega (arith, h .taken);
       }
 
-  module _ (cs : List Command) where
-    turn-from : (l : Level) (s : State) (ls : List Level) (x : Outcome) → From ks lent all (turn ks cs l s) ls x → From ks lent all s (l ∷ ls) x
-    unfolding lows
-    turn-from l s ls x h =
-        let c = turn-clock ks cs s l in
-        record {
-          used = suc (h .used);
-          within = suc-le-suc (h .within);
-          positions = omega (arith, h .positions, ap (λ (t : Clock). t .positions) c);
-          steps = omega (arith, h .steps, ap (λ (t : Clock). t .steps) c, low-steps (role l) (lows (take (h .used) ls)));
-          lined = h .lined;
-          bytes = h .bytes;
-          room = h .room;
-          taken = h .taken;
-        }
+  turn-from : (l : Level) (s : State) (ls : List Level) (x : Outcome) → From ks cs lent all (turn ks cs l s) ls x → From ks cs lent all s (l ∷ ls) x
+  unfolding lows afterTurns
+  turn-from l s ls x h =
+      let c = turn-clock ks cs s l in
+      record {
+        used = suc (h .used);
+        within = suc-le-suc (h .within);
+        ending = h .ending;
+        outcome = h .outcome;
+        positions = omega (arith, h .positions, ap (λ (t : Clock). t .positions) c);
+        steps = omega (arith, h .steps, ap (λ (t : Clock). t .steps) c, low-steps (role l) (lows (take (h .used) ls)));
+        lined = h .lined;
+        bytes = h .bytes;
+        room = h .room;
+        taken = h .taken;
+      }
 
-    -- where the verdict is to go on, there is room
-    settle-from : (a b c : Bool) (s : State) (ls : List Level) (x : Outcome) → Reached ks lent all s → (c ≡ false → From ks lent all s ls x)
-        → From ks lent all s ls (settle (verdictBy a b c) s x)
-    settle-from true b c s ls x h f = ended-from Stopped s ls h
-    settle-from false true c s ls x h f = ended-from LettersUsed s ls h
-    settle-from false false true s ls x h f = ended-from NoRoom s ls h
-    settle-from false false false s ls x h f = f refl
+  -- where the verdict is to go on, there is room
+  settle-from : (a b c : Bool) (s : State) (ls : List Level) (x : Outcome) → Reached ks lent all s → (c ≡ false → From ks cs lent all s ls x)
+      → From ks cs lent all s ls (settle (verdictBy a b c) s x)
+  settle-from true b c s ls x h f = ended-from Stopped s ls h
+  settle-from false true c s ls x h f = ended-from LettersUsed s ls h
+  settle-from false false true s ls x h f = ended-from NoRoom s ls h
+  settle-from false false false s ls x h f = f refl
 
-    run-from : (s : State) (ls : List Level) → Reached ks lent all s → From ks lent all s ls (run ks cs lent s ls)
-    unfolding runBy verdict noRoom
-    run-from s [] h = settle-from (stopped cs (process leader s)) true false s [] _ h (λ e. ended-from LettersUsed s [] h)
-    run-from s (l ∷ ls) h =
-        settle-from (stopped cs (process leader s)) false _ s (l ∷ ls) _ h
-        (λ e. turn-from l s ls _ (run-from (turn ks cs l s) ls (turn-reached ks lent all cs l s e h)))
+  run-from : (s : State) (ls : List Level) → Reached ks lent all s → From ks cs lent all s ls (run ks cs lent s ls)
+  unfolding runBy verdict noRoom
+  run-from s [] h = settle-from (stopped cs (process leader s)) true false s [] _ h (λ e. ended-from LettersUsed s [] h)
+  run-from s (l ∷ ls) h =
+      settle-from (stopped cs (process leader s)) false _ s (l ∷ ls) _ h
+      (λ e. turn-from l s ls _ (run-from (turn ks cs l s) ls (turn-reached ks lent all cs l s e h)))
+
+-- a run of a job, from the first state
+pub run-of : (j : Job) (lent : ℕ) → From (j .keys) (j .commands) lent (length (j .messages)) (initial (j .keys) (j .messages)) (j .turns) (runJob j lent)
+unfolding runJobBy
+run-of j lent = run-from (j .keys) (j .commands) lent (length (j .messages)) (initial (j .keys) (j .messages)) (j .turns) (reached-first (j .keys) lent (j .messages))
+
+pub used-all : (j : Job) (lent : ℕ) → run-of j lent .used ≡ runJob j lent .counts .positions
+unfolding initial
+used-all j lent = let f = run-of j lent in sym (f .positions ∙ zero-add (f .used))
 
 pub counts-of : (j : Job) (lent : ℕ) → Counted j lent
-unfolding runJobBy lineLength initial
+unfolding lineLength initial
 counts-of j lent =
-    let all : ℕ = length (j .messages) in
-    let s : State = initial (j .keys) (j .messages) in
-    let f : From (j .keys) lent all s (j .turns) (runJob j lent) = run-from (j .keys) lent all (j .commands) s (j .turns) (reached-first (j .keys) lent (j .messages)) in
-    let u : f .used ≡ runJob j lent .counts .positions = sym (f .positions ∙ zero-add (f .used)) in
+    let f = run-of j lent in
+    let u = used-all j lent in
     record {
       positions = omega (arith, f .within, u);
       steps = f .steps ∙ zero-add _ ∙ ap (λ (n : ℕ). lows (take n (j .turns))) u;

@@ -14,4 +14,5 @@ pub mod Line
 pub mod Secrecy
 pub mod Accepted
 pub mod Witness
+pub mod CallKinds
 pub mod Written

@@ -7,7 +7,7 @@ use lib.{ListN.length, ListN.getD, ListN.drop, Seq.getD-drop}
 use native.Mathlib.Numerals.{one-add}
 use Rattle.model.specs.{Step.callOf, State.Process, State.Sent, State.Incoming, State.Outgoing, State.State, State.fieldsOf, State.refill, State.step}
 use Rattle.model.specs.{State.command, State.Role, State.leads, State.follows, State.role, State.leader, State.takenOf, State.takes}
-use Rattle.model.specs.{State.sends, State.ticked, State.process, State.withProcess, Run.Outcome, Run.share, Run.counted, Run.lead, Run.followed, Run.Rule, Run.following}
+use Rattle.model.specs.{State.sends, State.ticked, State.process, State.withProcess, State.noted, Run.Outcome, Run.share, Run.counted, Run.lead, Run.followed, Run.Rule, Run.following}
 use Rattle.model.specs.{Run.moved}
 use Rattle.model.specs.{Run.turnBy, Run.ended, Run.settle, Run.runBy, Run.initial, Message.shown, Message.source, Message.fill, Message.received, Message.receive}
 use Rattle.model.specs.{Message.columns, Message.lineNow, Message.send, Line.lineLength, Verdict.Verdict, Verdict.GoesOn, Verdict.Ends, Verdict.lacking}
@@ -60,6 +60,7 @@ pub record OutgoingLike (o : Level) (ks : List Key) (a b : Outgoing) : Type 0 wh
 
 pub record Like (o : Level) (ks : List Key) (s t : State) : Type 0 where
   pub processes : (l : Level) → l ≢ o → process l s ≡ process l t
+  pub kinds : s .kinds ≡ t .kinds
   pub incoming : IncomingLike o ks (s .incoming) (t .incoming)
   pub outgoing : OutgoingLike o ks (s .outgoing) (t .outgoing)
   pub clock : s .clock ≡ t .clock
@@ -117,6 +118,7 @@ module _ (o : Level) (hid : Low ≢ o) (ks : List Key) where
   receive-alike s t h =
       record {
         processes = λ l lo. at-each _ l (s .processes) ∙ ap₂ refill (received-alike _ _ (h .incoming .rest) l lo) (h .processes l lo) ∙ sym (at-each _ l (t .processes));
+        kinds = h .kinds;
         incoming = takes-alike _ _ (h .incoming);
         outgoing = h .outgoing;
         clock = h .clock;
@@ -126,23 +128,27 @@ module _ (o : Level) (hid : Low ≢ o) (ks : List Key) where
   unfolding send sends lineNow
   send-alike s t h =
       let lines = sent-snoc o ks (h .outgoing .sent) (record { position = ap (λ (c : Clock). c .positions) (h .clock); columns = columns-alike o ks s t h 0 ks }) in
-      record { processes = h .processes; incoming = h .incoming; outgoing = record { sent = lines; bytes = cc (h .outgoing .bytes) }; clock = h .clock }
+      record { processes = h .processes; kinds = h .kinds; incoming = h .incoming; outgoing = record { sent = lines; bytes = cc (h .outgoing .bytes) }; clock = h .clock }
+
+  noted-alike : (k : Call) (s t : State) → Like o ks s t → Like o ks (noted k s) (noted k t)
+  unfolding noted
+  noted-alike k s t h = record { processes = h .processes; kinds = ap (λ (m : List Call). m ++ (k ∷ [])) (h .kinds); incoming = h .incoming; outgoing = h .outgoing; clock = h .clock }
 
   share-alike : (c : Call) (s t : State) → Like o ks s t → Like o ks (share c ks s) (share c ks t)
   unfolding share
   share-alike Neither s t h = h
-  share-alike Receives s t h = receive-alike s t h
-  share-alike Sends s t h = send-alike s t h
+  share-alike Receives s t h = noted-alike Receives _ _ (receive-alike s t h)
+  share-alike Sends s t h = noted-alike Sends _ _ (send-alike s t h)
 
   counted-alike : (l : Level) (s t : State) → Like o ks s t → Like o ks (counted l s) (counted l t)
-  counted-alike l s t h = record { processes = h .processes; incoming = h .incoming; outgoing = h .outgoing; clock = ap (ticked l) (h .clock) }
+  counted-alike l s t h = record { processes = h .processes; kinds = h .kinds; incoming = h .incoming; outgoing = h .outgoing; clock = ap (ticked l) (h .clock) }
 
   put-alike : {l m : Level} → Changed l m → (p q : Process) (s t : State) → (l ≢ o → p ≡ q) → m ≢ o → process m s ≡ process m t → process m (withProcess l p s) ≡ process m (withProcess l q t)
   put-alike (same e f) p q s t g mo h = f p (s .processes) ∙ g (λ lo. mo (sym e ∙ lo)) ∙ sym (f q (t .processes))
   put-alike (other f) p q s t g mo h = f p (s .processes) ∙ h ∙ sym (f q (t .processes))
 
   with-alike : (l : Level) (p q : Process) (s t : State) → (l ≢ o → p ≡ q) → Like o ks s t → Like o ks (withProcess l p s) (withProcess l q t)
-  with-alike l p q s t e h = record { processes = λ m mo. put-alike (changed l m) p q s t e mo (h .processes m mo); incoming = h .incoming; outgoing = h .outgoing; clock = h .clock }
+  with-alike l p q s t e h = record { processes = λ m mo. put-alike (changed l m) p q s t e mo (h .processes m mo); kinds = h .kinds; incoming = h .incoming; outgoing = h .outgoing; clock = h .clock }
 
   -- At the low execution: equal low processes stay equal, and so does what all but o see of the message and the output
   lead-alike : (n : ℕ) (c : Command) (s t : State) → Like o ks s t → Like o ks (lead ks n c s) (lead ks n c t)
@@ -156,7 +162,7 @@ module _ (o : Level) (hid : Low ≢ o) (ks : List Key) where
 
     -- two runs by one rule: the others' turns start from equal processes
     pub same-rule : RulesAgree following following
-    same-rule l r lo s t h = ap₂ (followed cs) (h .processes leader hid) (h .processes l lo)
+    same-rule l r lo s t h = ap₂ (followed cs) (h .kinds) (h .processes l lo)
 
     moved-alike : (f g : Rule) → RulesAgree f g → (r : Role) (l : Level) → role l ≡ r → (s t : State) → Like o ks s t → Like o ks (moved f r ks cs l s) (moved g r ks cs l t)
     moved-alike f g agree leads l e s t h =
@@ -201,4 +207,4 @@ module _ (o : Level) (hid : Low ≢ o) (ks : List Key) where
 
   pub initial-alike : (a b : List (List Entry)) → RestLike o ks a b → Like o ks (initial ks a) (initial ks b)
   unfolding initial
-  initial-alike a b r = record { processes = λ l lo. refl; incoming = record { rest = r; taken = refl }; outgoing = record { sent = none; bytes = refl }; clock = refl }
+  initial-alike a b r = record { processes = λ l lo. refl; kinds = refl; incoming = record { rest = r; taken = refl }; outgoing = record { sent = none; bytes = refl }; clock = refl }

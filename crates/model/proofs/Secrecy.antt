@@ -5,7 +5,7 @@ use mathlib.Core.Logic.{_≢_}
 use mathlib.Core.List.{List, [], _∷_}
 use lib.ListN.{length, getD, drop, length-append}
 use native.Mathlib.{Omega.arith, Nat.suc-inj}
-use Rattle.model.specs.{Job.Job, Run.Outcome, Run.Rule, Run.following, Run.runJobBy, Run.runJob, Message.source, Line.lineLength, Line.bytesOf, Line.memoryAfter, Placed.front, Answer.leftBy, Answer.numbersOf}
+use Rattle.model.specs.{Job.Job, Run.Outcome, Run.following, Run.runJobBy, Run.runJob, Message.source, Line.lineLength, Line.bytesOf, Line.memoryAfter, Placed.front, Answer.leftBy, Answer.numbersOf}
 use Rattle.model.specs.{Answer.runSheet, Secrecy.OwnedBy, Secrecy.Hidden, Secrecy.Indistinguishable, Secrecy.SecrecyOf, Secrecy.SheetSecrecyOf}
 use Rattle.model.specs.Data.{Entry, Key, Open, Secret, Level, Low, High, Ending, Counts, Ended}
 use Rattle.model.proofs.{Lockstep.LineLike, Lockstep.RestLike, Lockstep.Same, Lockstep.same-rule, Lockstep.run-alike, Lockstep.initial-alike, Levels.low≢high, Line.split, Line.same-size}
@@ -23,7 +23,7 @@ source-owned o hid Open h = absurd (hid h)
 source-owned o hid (Secret d) h = sym h
 
 -- the messages, from one by one to line by line
-rest-alike : (o : Level) (ks : List Key) (a b : List (List Entry)) → length a ≡ length b → ((j : ℕ) → LineLike o ks (getD a j []) (getD b j [])) → RestLike o ks a b
+pub rest-alike : (o : Level) (ks : List Key) (a b : List (List Entry)) → length a ≡ length b → ((j : ℕ) → LineLike o ks (getD a j []) (getD b j [])) → RestLike o ks a b
 rest-alike o ks [] [] e h = tt
 rest-alike o ks [] (b ∷ bs) e h = omega arith
 rest-alike o ks (a ∷ xs) [] e h = omega arith
@@ -50,7 +50,7 @@ module _ (o : Level) (ks : List Key) (m : List ℕ) (x y : Outcome) (hid : Low �
       clear (record { below = omega arith; key = k; isKey = isKey; owned = source-owned o hid _ own; from = omega arith; to = omega arith })))
       (λ r eq. ap (λ (n : ℕ). getD (drop n m) r 0) (ex ∙ sym size))
 
-  indistinguishable : Indistinguishable o ks (leftBy m x) (leftBy m y)
+  pub indistinguishable : Indistinguishable o ks (leftBy m x) (leftBy m y)
   unfolding numbersOf
   indistinguishable = record { numbers = ap₂ (λ (e : Ending) (c : Counts). numbersOf (Ended e c)) (same .ending) (same .counts); size = memory-size; byte = memory-byte }
 

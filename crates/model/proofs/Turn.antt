@@ -2,17 +2,17 @@
 use Prim.Native.Nat.{ℕ, _+_}
 use mathlib.Core.Path.{_≡_, refl, sym, ap, ap₂, _∙_}
 use mathlib.Core.Bool.{Bool, true, false, cond}
-use mathlib.Core.List.{List}
+use mathlib.Core.List.{List, [], _∷_, _++_, append-nil}
 use native.Mathlib.Omega.{arith}
-use lib.{IntN.ℤ, IntN.pos, ListN.length, ListN.getD, Seq.set-getD}
+use lib.{IntN.ℤ, IntN.pos, ListN.length, ListN.getD, ListN.length-append, Seq.set-getD}
 use Rattle.model.specs.{Step.variable, Step.calledOf, Step.made, Step.effectBy, Step.steppedBy, Step.does, Step.callOf, Step.callsBy, State.Process, State.Processes}
 use Rattle.model.specs.{State.entry, State.stored, State.step, State.command, State.stopped, State.Role, State.leads, State.follows, State.role, State.leader}
 use Rattle.model.specs.{State.ticked, State.State}
-use Rattle.model.specs.{State.process, State.withProcess, Message.receive, Message.send, Verdict.waits, Verdict.idles, Run.share, Run.lead, Run.followed, Run.moved}
+use Rattle.model.specs.{State.process, State.withProcess, State.noted, State.refill, Message.received, Message.receive, Message.send, Verdict.idles, Run.waitsAt, Run.share, Run.lead, Run.followed, Run.moved}
 use Rattle.model.specs.{Run.following, Run.counted, Run.turnBy, Run.turn}
 use Rattle.model.specs.Data.{Entry, Absent, Key, Op, Set, Add, Sub, Mul, Div, Read, Has, Put, Drop, IfNeg, IfZero, Jump, Receive, Send, Stop, Command, Call, Neither}
 use Rattle.model.specs.Data.{Receives, Sends, Level, Low, High, Execution}
-use Rattle.model.proofs.Levels.{put-at}
+use Rattle.model.proofs.Levels.{leads-not-follows, at-each, put-leader, put-follower, put-at}
 
 -- ---- Calls
 
@@ -53,10 +53,33 @@ call-step n c p k is call =
     ap (stored p (c .k)) (call-does c (p .execution) (getD (p .fields) (c .k) Absent) n k is call)
     ∙ ap (λ (l : List Entry). record { execution = calledOf (p .execution); fields = l }) (set-getD (p .fields) (c .k) Absent)
 
--- ---- Turns
+-- the kinds that a command of the leader adds
+abbrev pub kindsBy : Call → List Call
+kindsBy Neither = []
+kindsBy Receives = Receives ∷ []
+kindsBy Sends = Sends ∷ []
 
-leads-not-follows : leads ≡ follows → ⊥
-leads-not-follows e = let z : _≡_ {A = ℕ} 0 1 = cc in omega arith
+pub kinds-count : (k : Call) → length (kindsBy k) ≡ callsBy k
+kinds-count Neither = refl
+kinds-count Receives = refl
+kinds-count Sends = refl
+
+-- ---- What a call of the leader leaves of each execution and of the kinds
+
+module _ (ks : List Key) (s : State) where
+  pub share-execution : (k : Call) (l : Level) → process l (share k ks s) .execution ≡ process l s .execution
+  unfolding share receive refill send noted
+  share-execution Neither l = refl
+  share-execution Receives l = ap (λ (p : Process). p .execution) (at-each (λ m. refill (received ks (s .incoming .rest) m)) l (s .processes))
+  share-execution Sends l = refl
+
+  pub share-kinds : (k : Call) → share k ks s .kinds ≡ s .kinds ++ kindsBy k
+  unfolding share receive send noted
+  share-kinds Neither = sym (append-nil (s .kinds))
+  share-kinds Receives = refl
+  share-kinds Sends = refl
+
+-- ---- Turns
 
 module _ (ks : List Key) (cs : List Command) (s : State) where
   -- the kind of call at which a level's execution stands
@@ -65,7 +88,7 @@ module _ (ks : List Key) (cs : List Command) (s : State) where
 
   -- whether the turn of a level that follows passes idle
   abbrev pub idlesAt : Level → Bool
-  idlesAt l = idles (stopped cs (process l s)) (waits (callAt l) (process leader s .execution .calls) (process l s .execution .calls))
+  idlesAt l = idles (stopped cs (process l s)) (waitsAt cs (s .kinds) (process l s))
 
   -- a level's execution does its command and nothing else: where it leads, no call; where it follows, no idling
   abbrev pub Alone : Role → Level → Type 0
@@ -97,23 +120,23 @@ module _ (ks : List Key) (cs : List Command) (s : State) where
   turn-idle Low f e = absurd (leads-not-follows f)
   turn-idle High f e =
       ap (followedBy High) e
-      ∙ ap (λ (ps : Processes). counted High (record { processes = ps; incoming = s .incoming; outgoing = s .outgoing; clock = s .clock })) (put-at High (s .processes))
+      ∙ ap (λ (ps : Processes). counted High (record { processes = ps; kinds = s .kinds; incoming = s .incoming; outgoing = s .outgoing; clock = s .clock })) (put-at High (s .processes))
 
-  pub turn-receive : callAt leader ≡ Receives → turn ks cs leader s ≡ counted leader (withProcess leader (called (process leader (receive ks s))) (receive ks s))
-  unfolding share
+  pub turn-receive : callAt leader ≡ Receives → turn ks cs leader s ≡ counted leader (withProcess leader (called (process leader (receive ks s))) (noted Receives (receive ks s)))
+  unfolding share noted
   turn-receive e =
       leading Receives e
-      ∙ ap (λ (p : Process). counted leader (withProcess leader p (receive ks s))) (call-step (length cs) (command cs (process leader s)) (process leader (receive ks s)) Receives e refl)
+      ∙ ap (λ (p : Process). counted leader (withProcess leader p (noted Receives (receive ks s)))) (call-step (length cs) (command cs (process leader s)) (process leader (receive ks s)) Receives e refl)
 
-  pub turn-send : callAt leader ≡ Sends → turn ks cs leader s ≡ counted leader (withProcess leader (called (process leader s)) (send ks s))
-  unfolding share send
+  pub turn-send : callAt leader ≡ Sends → turn ks cs leader s ≡ counted leader (withProcess leader (called (process leader s)) (noted Sends (send ks s)))
+  unfolding share send noted
   turn-send e =
       leading Sends e
-      ∙ ap (λ (p : Process). counted leader (withProcess leader p (send ks s))) (call-step (length cs) (command cs (process leader s)) (process leader s) Sends e refl)
+      ∙ ap (λ (p : Process). counted leader (withProcess leader p (noted Sends (send ks s)))) (call-step (length cs) (command cs (process leader s)) (process leader s) Sends e refl)
 
   -- every kind of turn moves the clock, and nothing else does
   pub clock-kept : (r : Role) (l : Level) → moved following r ks cs l s .clock ≡ s .clock
-  unfolding lead share receive send
+  unfolding lead share receive send noted
   clock-kept leads l = go (callAt leader)
     where
       go : (k : Call) → share k ks s .clock ≡ s .clock
@@ -125,3 +148,32 @@ module _ (ks : List Key) (cs : List Command) (s : State) where
   pub turn-clock : (l : Level) → turn ks cs l s .clock ≡ ticked l (s .clock)
   unfolding turnBy
   turn-clock l = ap (ticked l) (clock-kept (role l) l)
+
+-- ---- As many kinds as the leader has made calls
+
+-- the calls that an execution has made
+abbrev pub callsAt : Level → State → ℕ
+callsAt l s = process l s .execution .calls
+
+pub step-calls : (n : ℕ) (c : Command) (p : Process) → step n c p .execution .calls ≡ p .execution .calls + callsBy (callOf (c .op))
+unfolding step does
+step-calls n c p = refl
+
+module _ (ks : List Key) (cs : List Command) where
+  moved-kinds : (r : Role) (l : Level) → role l ≡ r → (s : State) → length (s .kinds) ≡ callsAt leader s
+      → length (moved following r ks cs l s .kinds) ≡ callsAt leader (moved following r ks cs l s)
+  unfolding lead
+  moved-kinds leads l e s h =
+      let c = command cs (process leader s) in
+      let k = callOf (c .op) in
+      let t = share k ks s in
+      let own = process leader t in
+      ap length (share-kinds ks s k)
+      ∙ length-append (s .kinds) (kindsBy k)
+      ∙ ap₂ _+_ (h ∙ sym (ap (λ (x : Execution). x .calls) (share-execution ks s k leader))) (kinds-count k)
+      ∙ sym (ap (λ (p : Process). p .execution .calls) (put-leader (step (length cs) c own) (t .processes)) ∙ step-calls (length cs) c own)
+  moved-kinds follows l e s h = h ∙ sym (ap (λ (p : Process). p .execution .calls) (put-follower l e (following cs l s) (s .processes)))
+
+  pub turn-kinds : (l : Level) (s : State) → length (s .kinds) ≡ callsAt leader s → length (turn ks cs l s .kinds) ≡ callsAt leader (turn ks cs l s)
+  unfolding turnBy
+  turn-kinds l s h = moved-kinds (role l) l refl s h

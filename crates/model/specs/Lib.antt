@@ -31,3 +31,4 @@ pub mod Counted
 pub mod Accepted
 pub mod Examples
 pub mod Witness
+pub mod CallKinds

@@ -28,6 +28,7 @@ unfoldable pub receive : List Key → State → State
 receive ks s =
     record {
       processes = each (λ l. refill (received ks (s .incoming .rest) l)) (s .processes);
+      kinds = s .kinds;
       incoming = takes (s .incoming);
       outgoing = s .outgoing;
       clock = s .clock;

@@ -1,35 +1,43 @@
 -- The paired model: two executions and one message, turn by turn, to the run's ending.
 use mathlib.Core.List.{List, [], _∷_}
 use Prim.Native.Nat.{ℕ}
-use mathlib.Core.Bool.{cond}
+use mathlib.Core.Bool.{Bool, cond}
 use lib.ListN.{length, replicate}
 use Rattle.model.specs.{State.Process, State.step, State.command, State.stopped, State.Role, State.leads, State.follows, State.role, State.leader, State.Sent}
-use Rattle.model.specs.{State.started, State.ticked, State.State, State.process, State.withProcess, State.withClock, Message.receive, Message.send, Step.callOf}
-use Rattle.model.specs.{Step.begun, Verdict.Verdict, Verdict.GoesOn, Verdict.Ends, Verdict.verdict, Verdict.waits, Verdict.idles, Job.Job}
+use Rattle.model.specs.{State.started, State.ticked, State.State, State.process, State.withProcess, State.withClock, State.noted, Message.receive, Message.send, Step.callOf}
+use Rattle.model.specs.{Step.begun, Verdict.Verdict, Verdict.GoesOn, Verdict.Ends, Verdict.verdict, Verdict.kindAt, Verdict.waits, Verdict.idles, Job.Job}
 use Rattle.model.specs.Data.{Entry, Absent, Key, Command, Call, Neither, Receives, Sends, Level, Ending, LettersUsed, Counts}
 
 -- ---- Turns
 
--- what a call of the leader does to the message and the output
+-- what a call of the leader does to the message and the output; its kind is kept
 unfoldable pub share : Call → List Key → State → State
 share Neither ks s = s
-share Receives ks s = receive ks s
-share Sends ks s = send ks s
+share Receives ks s = noted Receives (receive ks s)
+share Sends ks s = noted Sends (send ks s)
 
 -- *L turn.* "The low execution does its command."
 unfoldable pub lead : List Key → ℕ → Command → State → State
 lead ks n c s = let t = share (callOf (c .op)) ks s in withProcess leader (step n c (process leader t)) t
 
--- *H turn.* "The high execution does its command. A `receive` or `send` of its own has no effect but to move it on."
-unfoldable pub followed : List Command → Process → Process → Process
-followed cs first p = cond (idles (stopped cs p) (waits (callOf (command cs p .op)) (first .execution .calls) (p .execution .calls))) p (step (length cs) (command cs p) p)
+-- whether an execution waits at its command, where the leader's calls were of these kinds: one that has passed c calls is at its call number c, counted from 0
+unfoldable pub waitsAt : List Command → List Call → Process → Bool
+waitsAt cs kinds p = waits (callOf (command cs p .op)) (kindAt kinds (p .execution .calls))
+
+-- *H turn.* "The high execution does its command. A `receive` or `send` of its own has no effect but to move it on."; or else the turn passes idle
+abbrev pub unlessIdle : List Command → Bool → Process → Process
+unlessIdle cs waiting p = cond (idles (stopped cs p) waiting) p (step (length cs) (command cs p) p)
+
+unfoldable pub followed : List Command → List Call → Process → Process
+followed cs kinds p = unlessIdle cs (waitsAt cs kinds p) p
 
 -- A rule for the executions that follow: what the turn of a level makes of its process, from the state before it. By its type it changes nothing else.
 abbrev pub Rule : Type 0
 Rule = List Command → Level → State → Process
 
+-- the rule by which every run goes, that of document 02's Note 2
 abbrev pub following : Rule
-following cs l s = followed cs (process leader s) (process l s)
+following cs l s = followed cs (s .kinds) (process l s)
 
 -- by the role of the level whose turn it is, and a rule for those that follow
 abbrev pub moved : Rule → Role → List Key → List Command → Level → State → State
@@ -43,6 +51,7 @@ counted l s = withClock (ticked l (s .clock)) s
 unfoldable pub turnBy : Rule → List Key → List Command → Level → State → State
 turnBy f ks cs l s = counted l (moved f (role l) ks cs l s)
 
+-- the turn of a level, and below the run, by that rule
 abbrev pub turn : List Key → List Command → Level → State → State
 turn ks cs l s = turnBy following ks cs l s
 
@@ -83,6 +92,7 @@ unfoldable pub initial : List Key → List (List Entry) → State
 initial ks ms =
     record {
       processes = record { low = fresh ks; high = fresh ks };
+      kinds = [];
       incoming = record { rest = ms; taken = 0 };
       outgoing = record { sent = []; bytes = 0 };
       clock = started;

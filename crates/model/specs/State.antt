@@ -1,10 +1,10 @@
--- The state of a run: two executions, each with its own fields of the one message, what came in, what went out, and the clock.
+-- The state of a run: two executions, each with its own fields of the one message, the kinds of the calls made, what came in, what went out, and the clock.
 use mathlib.Core.List.{List, [], _∷_, _++_}
 use Prim.Native.Nat.{ℕ, _+_}
 use lib.{ListN.getD, ListN.set, ListN.length, Dec.leb}
 use mathlib.Core.Bool.{Bool}
 use Rattle.model.specs.{Step.does, Step.Stepped, Command.blank}
-use Rattle.model.specs.Data.{Entry, Absent, Set, Command, Level, Low, High, Execution, Clock}
+use Rattle.model.specs.Data.{Entry, Absent, Set, Command, Call, Level, Low, High, Execution, Clock}
 
 -- ---- One execution on its own fields
 
@@ -112,8 +112,11 @@ ticked l c = record { positions = c .positions + 1; steps = c .steps + stepsBy (
 
 -- ---- The state of a run
 
+-- Beside the parts above, the kinds of the calls that the leader has made, in their order: "the j-th low call" stands at place j - 1. All are kept, since
+-- an execution that follows may be any number of calls behind.
 pub record State : Type 0 where
   pub processes : Processes
+  pub kinds : List Call
   pub incoming : Incoming
   pub outgoing : Outgoing
   pub clock : Clock
@@ -126,10 +129,14 @@ fieldsOf s l = process l s .fields
 
 -- one part of the state changed, and the others as they were
 abbrev pub withProcess : Level → Process → State → State
-withProcess l p s = record { processes = put l p (s .processes); incoming = s .incoming; outgoing = s .outgoing; clock = s .clock }
+withProcess l p s = record { processes = put l p (s .processes); kinds = s .kinds; incoming = s .incoming; outgoing = s .outgoing; clock = s .clock }
 
 abbrev pub withOutgoing : Outgoing → State → State
-withOutgoing o s = record { processes = s .processes; incoming = s .incoming; outgoing = o; clock = s .clock }
+withOutgoing o s = record { processes = s .processes; kinds = s .kinds; incoming = s .incoming; outgoing = o; clock = s .clock }
 
 abbrev pub withClock : Clock → State → State
-withClock c s = record { processes = s .processes; incoming = s .incoming; outgoing = s .outgoing; clock = c }
+withClock c s = record { processes = s .processes; kinds = s .kinds; incoming = s .incoming; outgoing = s .outgoing; clock = c }
+
+-- one call more of the leader, of this kind
+unfoldable pub noted : Call → State → State
+noted k s = record { processes = s .processes; kinds = s .kinds ++ (k ∷ []); incoming = s .incoming; outgoing = s .outgoing; clock = s .clock }

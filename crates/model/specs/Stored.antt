@@ -4,7 +4,7 @@ use mathlib.Core.Bool.{cond}
 use mathlib.Core.List.{List, map}
 use lib.{Dec.eqb, ListN.length, ListN.take, ListN.replicate}
 use Rattle.model.specs.{Command.blank, Job.Job, Turns.letterL}
-use Rattle.model.specs.Data.{Entry, Absent, Field, Key, Open, Stop, Level, Low, High, KeySlot, EntrySlot, MessageLine, StoredJob}
+use Rattle.model.specs.Data.{Entry, Absent, Field, Key, Open, Stop, Call, Receives, Sends, Level, Low, High, KeySlot, EntrySlot, MessageLine, StoredJob}
 
 -- what the arrays hold: the constants of src/lib.rt
 abbrev pub keyCapacity : ℕ
@@ -38,6 +38,13 @@ entriesIn n m = firstOf entryIn n (m .slots)
 -- the level of a byte that is one of the two letters
 abbrev pub levelOf : ℕ → Level
 levelOf b = cond (eqb b letterL) Low High
+
+-- the kind of call that a byte stands for, 0 for a receive; the first n of such bytes as kinds
+abbrev pub kindOf : ℕ → Call
+kindOf b = cond (eqb b 0) Receives Sends
+
+abbrev pub kindsIn : ℕ → List ℕ → List Call
+kindsIn n bs = map kindOf (take n bs)
 
 -- a key's field of a level, and the message as a level has it, where there are n keys
 abbrev pub side : Level → Field → Entry

@@ -1,7 +1,7 @@
 -- What is found before a turn: one of the endings "From the state", or that the turn is taken; and whether a high execution's turn passes idle.
 use Prim.Native.Nat.{ℕ, _-_}
 use mathlib.Core.List.{List, [], _∷_}
-use lib.Dec.{ltb, leb}
+use lib.{Dec.ltb, ListN.getD}
 use mathlib.Core.Bool.{Bool, false, true, cond}
 use Rattle.model.specs.{State.Role, State.leads, State.follows, State.role, State.leader, State.State, State.command, State.process, State.stopped}
 use Rattle.model.specs.{Line.lineLength, Step.callOf}
@@ -40,12 +40,20 @@ verdictBy atEnd used full = cond atEnd (Ends Stopped) (cond used (Ends LettersUs
 unfoldable pub verdict : List Key → List Command → ℕ → List Level → State → Verdict
 verdict ks cs room ls s = verdictBy (stopped cs (process leader s)) (allUsed ls) (noRoom ks cs room ls s)
 
--- "Its j-th call (j from 1) moves on only if the low execution has made at least j calls, of either kind.": it waits where the low one has made no
--- more calls than it has itself
-unfoldable pub waits : Call → ℕ → ℕ → Bool
-waits Neither low own = false
-waits Receives low own = leb low own
-waits Sends low own = leb low own
+-- the kind of the leader's call number j, counted from 0; Neither where it has not been made
+abbrev pub kindAt : List Call → ℕ → Call
+kindAt kinds j = getD kinds j Neither
+
+-- Document 02, Note 2: "the j-th high call moves on only if the j-th low call has been made and was of the same kind." So a command of the first kind waits,
+-- where the low call of its number is of the second. (One that is no call never waits.)
+unfoldable pub waits : Call → Call → Bool
+waits Neither low = false
+waits Receives Neither = true
+waits Receives Receives = false
+waits Receives Sends = true
+waits Sends Neither = true
+waits Sends Receives = true
+waits Sends Sends = false
 
 -- "Otherwise the turn passes idle. A stopped high execution also idles."
 unfoldable pub idles : Bool → Bool → Bool

@@ -40,6 +40,11 @@ pub const LETTER_CAPACITY: usize = 1024;
 
 pub const VARIABLES: usize = 8;
 
+// The kinds of call as bytes, in an array of them.
+pub const RECEIVED: u8 = 0;
+
+pub const SENT: u8 = 1;
+
 // The numbers of an answer, and the bytes of the answer memory, four for each.
 pub const NUMBERS: usize = 6;
 

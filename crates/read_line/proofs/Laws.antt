@@ -1,14 +1,14 @@
 -- Laws of the first line of a text, and of the phases that read one line or many.
 use mathlib.Core.Path.{_≡_, refl, sym, ap, _∙_, subst}
 use mathlib.Core.Bool.{true, false}
-use mathlib.Core.List.{List, [], _∷_, _++_, map, map-append}
+use mathlib.Core.List.{List, [], _∷_, _++_, map}
 use Prim.Native.Nat.{ℕ, _+_, _-_, _<_, _≤_}
-use native.Mathlib.{Decide.decLt, Numerals.add-one, Omega.arith}
-use lib.{ListN.length, ListN.take, ListN.drop, ListN.set, ListN.length-append, ListN.length-drop, ListN.length-map, Seq.drop-drop, Seq.take-suc-set, Seq.length-take-le}
+use native.Mathlib.{Decide.decLt, Omega.arith}
+use lib.{ListN.length, ListN.take, ListN.drop, ListN.set, ListN.length-append, ListN.length-drop, ListN.length-map, Seq.drop-drop, Seq.length-take-le}
 use Rattle.model.specs.{Parsed.Parsed, Parsed.got, Parsed.refused, Parsed._>>=_, Text.find, Text.lines, Text.equalsSign, Text.lineFeed, Phase.after, Phase.one}
 use Rattle.model.specs.{Phase.many, Phase.oneMore, Phase.numbered, Phase.onward, Phase.eachLine}
 use Rattle.model.specs.Phase as Model
-use Rattle.model.proofs.Parsed.{never}
+use Rattle.model.proofs.{Parsed.never, Stored.map-more}
 use Rattle.read_text.specs.Text.{starts, Word}
 use Rattle.read_text.proofs.Lines.{more-full, more-bad, more-ok, lines-none, lines-more, line-none, line-first, starts-take, after-named, after-other}
 use Rattle.read_line.specs.Phase.{beside, headed, foundAs, FeedInside, FirstLine, Reads}
@@ -142,9 +142,6 @@ module _ {A : Type 0} {w : List ℕ} {F : A → List ℕ → Parsed A} {start : 
       going-more y b = record { place = going-bound; number = omega (arith, g .number); same = sym (many-line w line F x (lines (drop a s)) _ _ within ∙ rw b) ∙ g .same }
 
 -- ---- A line more into an array: f shows what an element stands for, and the first n of xs count
-
-pub map-more : {A B : Type 0} (f : A → B) (n : ℕ) (xs : List A) (x : A) → n < length xs → map f (take (n + 1) (set xs n x)) ≡ map f (take n xs) ++ (f x ∷ [])
-map-more f n xs x h = rw (add-one, take-suc-set xs n x h) (map-append f (take n xs) (x ∷ []))
 
 module _ {A B C : Type 0} (f : A → B) (m : ℕ) (read : C → Parsed B) (n : ℕ) (xs : List A) (v : C) where
   shown : n ≤ length xs → length (map f (take n xs)) ≡ n

@@ -13,7 +13,7 @@ use Rattle.read_text.specs.Text.{Word}
 use Rattle.read_text.proofs.{Laws.uncons, Laws.done, Lines.lines-none, Lines.lines-more}
 use Rattle.read_line.specs.Phase.{Reads}
 use Rattle.read_line.specs.declared.Phase.the-variants.{Got, Refused}
-use Rattle.read_line.proofs.Laws.{map-more}
+use Rattle.model.proofs.Stored.{map-more}
 use Rattle.read_turns.specs.Turns.{LetterKnown}
 
 pub turns-word : Word (bytes "turns") (116 ∷ 117 ∷ 114 ∷ 110 ∷ 115 ∷ 61 ∷ [])

@@ -71,10 +71,10 @@ module _ {j : StoredJob} (ok : Ready j) where
   abbrev cs : List Command
   cs = jobOf j .commands
 
-  pub begins : (out₀ : List ℕ) (low high : Execution) (message : List Field) (clock : Clock) → low ≡ begun → high ≡ begun → Cleared message → clock ≡ started
-      → Kept j out₀ (record { low = low; high = high; message = message; taken = 0; bytes = 0; clock = clock }) out₀
+  pub begins : (out₀ : List ℕ) (low high : Execution) (message : List Field) (kinds : List ℕ) (clock : Clock) → low ≡ begun → high ≡ begun → Cleared message → clock ≡ started
+      → Kept j out₀ (record { low = low; high = high; message = message; kinds = kinds; taken = 0; bytes = 0; clock = clock }) out₀
   unfolding runJobBy bytesOf stateOf initial fresh
-  begins out₀ low high message clock el eh em ec =
+  begins out₀ low high message kinds clock el eh em ec =
       record {
         sent = [];
         going = ap₂ (λ (s : State) (n : ℕ). run ks cs (length out₀) s (drop n (jobOf j .turns))) first at-first;
@@ -89,7 +89,7 @@ module _ {j : StoredJob} (ok : Ready j) where
       fields : (l : Level) → held (j .keys) message l ≡ replicate (length ks) Absent
       fields l = cleared-held (j .keys) message (few ok .keys) em l ∙ ap (λ (n : ℕ). replicate n Absent) (sym (keys-count ok))
 
-      first : stateOf j [] (record { low = low; high = high; message = message; taken = 0; bytes = 0; clock = clock }) ≡ initial ks (jobOf j .messages)
+      first : stateOf j [] (record { low = low; high = high; message = message; kinds = kinds; taken = 0; bytes = 0; clock = clock }) ≡ initial ks (jobOf j .messages)
       first = rw (el, eh, ec, fields Low, fields High)
 
   module _ {out₀ : List ℕ} {h : Held} {out : List ℕ} (k : Kept j out₀ h out) where
@@ -112,7 +112,7 @@ module _ {j : StoredJob} (ok : Ready j) where
     pub record Small : Type 0 where
       pub positions : h .clock .positions ≤ letterCapacity
       pub steps : h .clock .steps ≤ letterCapacity
-      pub calls : (l : Level) → recordOf l h .calls ≤ letterCapacity
+      pub calls : (l : Level) → recordOf l h .calls ≤ h .clock .positions
       pub taken : h .taken ≤ messageCapacity
       pub bytes : h .bytes ≤ (10 + 12 * keyCapacity) * letterCapacity
       pub room : h .bytes ≤ length out
@@ -222,8 +222,9 @@ module _ {j : StoredJob} (ok : Ready j) where
 
 -- ---- What the loop keeps
 
--- besides, the message is as long as it was, and the low execution has not stopped: that is tested after each of its turns
+-- besides, the arrays are as long as they were, and the low execution has not stopped: that is tested after each of its turns
 pub record Inv (j : StoredJob) (out₀ : List ℕ) (h : Held) (out : List ℕ) : Type 0 where
   pub kept : Kept j out₀ h out
   pub full : length (h .message) ≡ keyCapacity
+  pub noted : length (h .kinds) ≡ letterCapacity
   pub live : h .low .place < j .«command_count»

@@ -2,23 +2,24 @@
 use Prim.Native.Nat.{ℕ, suc, _+_, _*_, _<_, _≤_}
 use mathlib.Core.Path.{_≡_, refl, sym, ap, ap₂, _∙_}
 use mathlib.Core.Bool.{Bool, true, false, cond}
-use mathlib.Core.List.{List, [], _∷_, append-nil}
-use native.Mathlib.{Numerals.add-one, Omega.arith, Decide.decLt}
+use mathlib.Core.List.{List, [], _∷_, _++_, append-nil}
+use native.Mathlib.{Nat.add-zero, Numerals.add-one, Omega.arith, Decide.decLt}
 use lib.{IntN.ℤ, Dec.ltb, Dec.leb, ListN.length, ListN.getD, ListN.drop, ListN.set, ListN.drop-of-length-le, Seq.drop-cons}
 use borrow.Author.Tests.{lt-ltb, le-ltb, lt-leb, le-leb}
 use Rattle.model.specs.{Step.variable, Step.afterOf, Step.calledOf, Step.effectOf, Step.Stepped, Step.steppedBy, Step.does, Step.callOf, Step.callsBy, Stored.keysIn}
-use Rattle.model.specs.{Stored.entriesIn, Stored.side, Stored.withSide, Stored.held, Stored.absentField, Stored.jobOf, State.Process, State.Sent}
+use Rattle.model.specs.{Stored.entriesIn, Stored.side, Stored.withSide, Stored.held, Stored.absentField, Stored.kindOf, Stored.kindsIn, Stored.jobOf, State.Process, State.Sent}
 use Rattle.model.specs.{State.entry, State.stored, State.step, State.command, State.stopped, State.Role, State.leads, State.follows, State.role, State.refill}
 use Rattle.model.specs.{State.put, State.each}
 use Rattle.model.specs.{State.takenOf, State.takes, State.sends, State.ticked, State.State, State.process, State.fieldsOf, State.withProcess, Message.source}
 use Rattle.model.specs.{Message.received}
-use Rattle.model.specs.{Message.receive, Message.columns, Message.lineNow, Message.send, Line.lineLength, Line.lineBytes, Line.bytesOf, Verdict.waits, Verdict.idles}
+use Rattle.model.specs.{Message.receive, Message.columns, Message.lineNow, Message.send, Line.lineLength, Line.lineBytes, Line.bytesOf, Verdict.kindAt, Verdict.waits, Verdict.idles, Run.waitsAt}
 use Rattle.model.specs.{Run.counted, Run.turn}
 use Rattle.model.specs.State as State
 use Rattle.model.specs.declared.{Entry.Entry, Entry.the-variants.Absent, Effect.Effect, Field.Field, Key.Key, Command.Command, Call.Call, Level.Level, Execution.Execution}
 use Rattle.model.specs.declared.{Clock.Clock, MessageLine.MessageLine, StoredJob.StoredJob}
 use Rattle.model.specs.declared.Call.the-variants.{Neither, Receives, Sends}
 use Rattle.model.specs.declared.Level.the-variants.{Low, High}
+use Rattle.model.proofs.{Levels.leads-not-follows, Stored.map-more, Stored.map-at}
 use Rattle.model.proofs.Turn.{Alone, idlesAt, callAt, turn-alone, turn-idle, turn-receive, turn-send}
 use Rattle.run_step.proofs.Laws.{changedBy, changed-is}
 use Rattle.run_message.specs.Message.{receivedBy}
@@ -27,7 +28,7 @@ use Rattle.model.specs.Placed.{placed}
 use Rattle.write_line.specs.Line.{columnsIn, lineOf}
 use Rattle.model.proofs.Placed.{placed-nil}
 use Rattle.write_line.proofs.Laws.{held-at}
-use Rattle.run_job.specs.{Held.Held, Held.recordOf, Held.withRecord, Held.withMessage, Held.withTaken, Held.withBytes, Held.withClock, Held.processOf}
+use Rattle.run_job.specs.{Held.Held, Held.recordOf, Held.withRecord, Held.withMessage, Held.withKinds, Held.withTaken, Held.withBytes, Held.withClock, Held.processOf}
 use Rattle.run_job.specs.{Held.stateOf, Turn.Turned}
 use Rattle.run_job.proofs.Views.{commandAt, Ready, keys-count, program-count, lines-count, command-is, operands-at, received-is}
 
@@ -41,9 +42,14 @@ columns-same i (k ∷ ks) f g e =
 abbrev pub commanded : Level → Execution → ℕ → Field → Clock → Held → Held
 commanded l x k f c h = withClock c (withRecord l x (withMessage (set (h .message) k f) h))
 
--- after a call of the leader, which changed of the record only the place and the count of calls
-abbrev pub calledBy : Execution → Clock → Held → Held
-calledBy next c h = withClock c (withRecord Low (record { place = next .place; vars = h .low .vars; calls = next .calls }) h)
+-- the kind of the leader's call number j of the n that it has made, as the code has it
+abbrev pub madeBefore : ℕ → ℕ → List ℕ → Call
+madeBefore j n bs = cond (ltb j n) (kindOf (getD bs j 0)) Neither
+
+-- after a call of the leader, of the kind that the byte b stands for, which changed of the record only the place and the count of calls
+abbrev pub calledBy : ℕ → Execution → Clock → Held → Held
+calledBy b next c h =
+    withClock c (withRecord Low (record { place = next .place; vars = h .low .vars; calls = next .calls }) (withKinds (set (h .kinds) (h .low .calls) b) h))
 
 module _ {j : StoredJob} (ok : Ready j) (sent : List Sent) (h : Held) where
   abbrev ks : List Key
@@ -71,18 +77,27 @@ module _ {j : StoredJob} (ok : Ready j) (sent : List Sent) (h : Held) where
   clock-only Low c e = ap (λ (d : Clock). stateOf j sent (withClock d h)) (sym e)
   clock-only High c e = ap (λ (d : Clock). stateOf j sent (withClock d h)) (sym e)
 
+  -- the leader has made as many calls with another record of a level's execution
+  abbrev SameCalls : Level → Execution → Type 0
+  SameCalls l y = withRecord l y h .low .calls ≡ h .low .calls
+
+  -- where a command of the leader is no call, and whatever another's is
+  calls-kept : (l : Level) (k : Call) → (role l ≡ leads → k ≡ Neither) → (y : Execution) → y .calls ≡ recordOf l h .calls + callsBy k → SameCalls l y
+  calls-kept Low k none y e = e ∙ ap (λ (i : Call). h .low .calls + callsBy i) (none refl) ∙ add-zero (h .low .calls)
+  calls-kept High k none y e = refl
+
   -- a level's own field at a key changed, and its record
   abbrev changed : Level → Execution → ℕ → Entry → State
   changed l y k e = counted l (withProcess l (record { execution = y; fields = set (held (j .keys) (h .message) l) k e }) here)
 
   changed-is-held : (l : Level) (y : Execution) (k : ℕ) (f : Field) (c : Clock) (e : Entry) → k < j .keys → f ≡ withSide l e (getD (h .message) k absentField) → c ≡ ticked l (h .clock)
-      → changed l y k e ≡ stateOf j sent (commanded l y k f c h)
+      → SameCalls l y → changed l y k e ≡ stateOf j sent (commanded l y k f c h)
   unfolding stateOf State.put
-  changed-is-held Low y k f c e below ef ec =
+  changed-is-held Low y k f c e below ef ec same =
       let own = held-set (j .keys) (h .message) Low k f below ∙ ap (λ (g : Field). set (held (j .keys) (h .message) Low) k (side Low g)) ef in
       let other = held-same (j .keys) (h .message) High k f absentField (ap (side High) ef) in
-      rw (own, other, ec)
-  changed-is-held High y k f c e below ef ec =
+      rw (own, other, ec, same)
+  changed-is-held High y k f c e below ef ec same =
       let own = held-set (j .keys) (h .message) High k f below ∙ ap (λ (g : Field). set (held (j .keys) (h .message) High) k (side High g)) ef in
       let other = held-same (j .keys) (h .message) Low k f absentField (ap (side Low) ef) in
       rw (own, other, ec)
@@ -104,7 +119,7 @@ module _ {j : StoredJob} (ok : Ready j) (sent : List Sent) (h : Held) where
     pub ends-idle : j .«command_count» ≤ x .place → idlesAt ks cs here l ≡ true
     unfolding idles stopped
     ends-idle end =
-        ap (λ (b : Bool). idles b (waits (callAt ks cs here l) (process Low here .execution .calls) (process l here .execution .calls)))
+        ap (λ (b : Bool). idles b (waitsAt cs (here .kinds) (process l here)))
         (ap (λ (p : Process). leb (length cs) (p .execution .place)) (process-is l) ∙ le-leb (length cs) (x .place) (omega (arith, program-count ok)))
 
     module _ (live : x .place < j .«command_count») where
@@ -116,23 +131,27 @@ module _ {j : StoredJob} (ok : Ready j) (sent : List Sent) (h : Held) where
       call-here = ap (λ (c : Command). callOf (c .op)) command-here
 
       -- elsewhere, whether it waits is all that idling asks
-      pub waits-here : idlesAt ks cs here l ≡ waits (callOf (commandOf .op)) (h .low .calls) (x .calls)
-      unfolding idles stopped stateOf State.at
-      waits-here =
+      pub waits-here : x .calls < length (h .kinds) → idlesAt ks cs here l ≡ waits (callOf (commandOf .op)) (madeBefore (x .calls) (h .low .calls) (h .kinds))
+      unfolding idles stopped waitsAt stateOf
+      waits-here inside =
           let going : stopped cs (process l here) ≡ false = ap (λ (p : Process). leb (length cs) (p .execution .place)) (process-is l) ∙ lt-leb (length cs) (x .place) (omega (arith, program-count ok)) in
-          ap₂ (λ (b : Bool) (p : Process). idles b (waits (callAt ks cs here l) (h .low .calls) (p .execution .calls))) going (process-is l)
-          ∙ ap (λ (k : Call). waits k (h .low .calls) (x .calls)) call-here
+          ap₂ (λ (b : Bool) (p : Process). idles b (waits (callAt ks cs here l) (kindAt (here .kinds) (p .execution .calls)))) going (process-is l)
+          ∙ ap₂ waits call-here (map-at kindOf (h .low .calls) (h .kinds) (x .calls) 0 Neither inside)
 
       -- ---- A command
 
       -- as the code tests it: the leader's command is no call, and another does not wait at it
       abbrev pub Free : Role → Type 0
       Free leads = callOf (commandOf .op) ≡ Neither
-      Free follows = waits (callOf (commandOf .op)) (h .low .calls) (x .calls) ≡ false
+      Free follows = (x .calls < length (h .kinds)) × (waits (callOf (commandOf .op)) (madeBefore (x .calls) (h .low .calls) (h .kinds)) ≡ false)
 
       alone : (r : Role) → Free r → Alone ks cs here r l
       alone leads e = call-here ∙ e
-      alone follows e = waits-here ∙ e
+      alone follows e = waits-here (e .0) ∙ e .1
+
+      no-call : (r : Role) → role l ≡ r → Free r → role l ≡ leads → callOf (commandOf .op) ≡ Neither
+      no-call leads e f g = f
+      no-call follows e f g = absurd (leads-not-follows (sym g ∙ e))
 
       key-below : commandOf .k < j .keys
       key-below = operands-at ok (x .place) live .k
@@ -172,7 +191,8 @@ module _ {j : StoredJob} (ok : Ready j) (sent : List Sent) (h : Held) where
           (turn-alone ks cs here l (alone (role l) free)
           ∙ ap (λ (p : Process). counted l (withProcess l p here)) (step-here e entry-is whole does-is)
           ∙ ap₂ (λ (q : Execution) (i : ℕ). changed l q i (r .entry)) (sym record-is) (sym ek)
-          ∙ changed-is-held l (changedBy x v z next) k f c (r .entry) (omega (arith, key-below)) ef ec)
+          ∙ changed-is-held l (changedBy x v z next) k f c (r .entry) (omega (arith, key-below)) ef ec
+          (calls-kept l (callOf (commandOf .op)) (no-call (role l) refl free) (changedBy x v z next) (ap (λ (q : Execution). q .calls) enext ∙ en)))
 
   -- ---- The leader's calls
 
@@ -180,7 +200,15 @@ module _ {j : StoredJob} (ok : Ready j) (sent : List Sent) (h : Held) where
   called-is : (next : Execution) → next ≡ calledOf (h .low) → record { place = next .place; vars = h .low .vars; calls = next .calls } ≡ calledOf (h .low)
   called-is next e = ap (λ (y : Execution). record { place = y .place; vars = h .low .vars; calls = y .calls }) e
 
-  module _ (live : h .low .place < j .«command_count») (c : Clock) (ec : c ≡ ticked Low (h .clock)) (next : Execution) (enext : next ≡ calledOf (h .low)) where
+  module _ (live : h .low .place < j .«command_count») (inside : h .low .calls < length (h .kinds))
+      (c : Clock) (ec : c ≡ ticked Low (h .clock)) (next : Execution) (enext : next ≡ calledOf (h .low)) where
+    -- one kind more
+    kind-more : (b : ℕ) (k : Call) → kindOf b ≡ k → kindsIn (next .calls) (set (h .kinds) (h .low .calls) b) ≡ kindsIn (h .low .calls) (h .kinds) ++ (k ∷ [])
+    kind-more b k e =
+        ap (λ (y : Execution). kindsIn (y .calls) (set (h .kinds) (h .low .calls) b)) enext
+        ∙ map-more kindOf (h .low .calls) (h .kinds) b inside
+        ∙ ap (λ (i : Call). kindsIn (h .low .calls) (h .kinds) ++ (i ∷ [])) e
+
     abbrev lines : ℕ
     lines = j .«message_count»
 
@@ -203,25 +231,25 @@ module _ {j : StoredJob} (ok : Ready j) (sent : List Sent) (h : Held) where
             let past : length ms ≤ h .taken = omega (arith, lines-count ok) in
             rw (none, drop-of-length-le ms past)
 
-    pub receive-turn : callOf (commandOf Low .op) ≡ Receives → (i : ℕ) (d : MessageLine) → i ≡ cond (ltb (h .taken) lines) (h .taken) 0
+    pub receive-turn : (b : ℕ) → kindOf b ≡ Receives → callOf (commandOf Low .op) ≡ Receives → (i : ℕ) (d : MessageLine) → i ≡ cond (ltb (h .taken) lines) (h .taken) 0
         → (m′ : List Field) → ((l : Level) → held (j .keys) m′ l ≡ receivedBy (j .keys) (keysIn (j .keys) (j .secrets)) (ltb (h .taken) lines) (entriesIn (j .keys) (getD (j .messages) i d)) l)
         → (n : ℕ) → n ≡ cond (ltb (h .taken) lines) (h .taken + 1) (h .taken) → (m : List ℕ)
-        → Turned j Low sent h (calledBy next c (withTaken n (withMessage m′ h))) m m
-    unfolding stateOf receive takes State.each State.put State.at refill
-    receive-turn is i d ei m′ em n en m =
+        → Turned j Low sent h (calledBy b next c (withTaken n (withMessage m′ h))) m m
+    unfolding stateOf receive State.noted takes State.each State.put State.at refill
+    receive-turn b eb is i d ei m′ em n en m =
         let fields : (l : Level) → received ks (drop (h .taken) (jobOf j .messages)) l ≡ held (j .keys) m′ l = λ l. sym (em l ∙ received-is ok l (h .taken) i d ei) in
-        still Low _ m (turn-receive ks cs here (call-here Low live ∙ is) ∙ rw (fields Low, fields High, took n en, ← ec, ← called-is next enext))
+        still Low _ m (turn-receive ks cs here (call-here Low live ∙ is) ∙ rw (fields Low, fields High, took n en, ← kind-more b Receives eb, ← ec, ← called-is next enext))
 
-    pub send-turn : callOf (commandOf Low .op) ≡ Sends → (n : ℕ) → n ≡ 10 + 12 * j .keys
+    pub send-turn : (b : ℕ) → kindOf b ≡ Sends → callOf (commandOf Low .op) ≡ Sends → (n : ℕ) → n ≡ 10 + 12 * j .keys
         → (m m′ : List ℕ) → m′ ≡ placed m (h .bytes) (lineBytes (lineOf (h .clock .positions) (columnsIn (j .keys) (j .secrets) (h .message))))
-        → Turned j Low sent h (calledBy next c (withBytes (h .bytes + n) h)) m m′
-    unfolding stateOf send sends lineNow bytesOf lineLength State.put State.at jobOf
-    send-turn is n en m m′ em =
+        → Turned j Low sent h (calledBy b next c (withBytes (h .bytes + n) h)) m m′
+    unfolding stateOf send State.noted sends lineNow bytesOf lineLength State.put State.at jobOf
+    send-turn b eb is n en m m′ em =
         let line = lineOf (h .clock .positions) (columnsIn (j .keys) (j .secrets) (h .message)) in
         let now : lineNow ks here ≡ line = ap (lineOf (h .clock .positions)) (columns-same 0 ks (fieldsOf here) (held (j .keys) (h .message)) (λ l. ap (λ (p : Process). p .fields) (process-is l))) in
         let need : lineLength ks ≡ n = ap (λ (i : ℕ). 10 + 12 * i) (keys-count ok) ∙ sym en in
         record {
           new = line ∷ [];
-          state = turn-send ks cs here (call-here Low live ∙ is) ∙ rw (now, need, ← ec, ← called-is next enext);
+          state = turn-send ks cs here (call-here Low live ∙ is) ∙ rw (now, need, ← kind-more b Sends eb, ← ec, ← called-is next enext);
           memory = em ∙ ap (placed m (h .bytes)) (sym (append-nil (lineBytes line)));
         }

@@ -2,15 +2,16 @@
 use Prim.Native.Nat.{ℕ}
 use mathlib.Core.List.{List}
 use lib.ListN.{drop}
-use Rattle.model.specs.{State.Process, State.Sent, State.State, Stored.held, Stored.jobOf}
+use Rattle.model.specs.{State.Process, State.Sent, State.State, Stored.held, Stored.kindsIn, Stored.jobOf}
 use Rattle.model.specs.declared.{Field.Field, Level.Level, Execution.Execution, Clock.Clock, StoredJob.StoredJob}
 use Rattle.model.specs.declared.Level.the-variants.{Low, High}
 
--- The record of each execution, the message, how many lines are taken, the bytes written, the clock
+-- The record of each execution, the message, the kinds of the low execution's calls as bytes, how many lines are taken, the bytes written, the clock
 pub record Held : Type 0 where
   pub low : Execution
   pub high : Execution
   pub message : List Field
+  pub kinds : List ℕ
   pub taken : ℕ
   pub bytes : ℕ
   pub clock : Clock
@@ -21,30 +22,35 @@ recordOf Low h = h .low
 recordOf High h = h .high
 
 abbrev pub withRecord : Level → Execution → Held → Held
-withRecord Low x h = record { low = x; high = h .high; message = h .message; taken = h .taken; bytes = h .bytes; clock = h .clock }
-withRecord High x h = record { low = h .low; high = x; message = h .message; taken = h .taken; bytes = h .bytes; clock = h .clock }
+withRecord Low x h = record { low = x; high = h .high; message = h .message; kinds = h .kinds; taken = h .taken; bytes = h .bytes; clock = h .clock }
+withRecord High x h = record { low = h .low; high = x; message = h .message; kinds = h .kinds; taken = h .taken; bytes = h .bytes; clock = h .clock }
 
 abbrev pub withMessage : List Field → Held → Held
-withMessage m h = record { low = h .low; high = h .high; message = m; taken = h .taken; bytes = h .bytes; clock = h .clock }
+withMessage m h = record { low = h .low; high = h .high; message = m; kinds = h .kinds; taken = h .taken; bytes = h .bytes; clock = h .clock }
+
+abbrev pub withKinds : List ℕ → Held → Held
+withKinds bs h = record { low = h .low; high = h .high; message = h .message; kinds = bs; taken = h .taken; bytes = h .bytes; clock = h .clock }
 
 abbrev pub withTaken : ℕ → Held → Held
-withTaken n h = record { low = h .low; high = h .high; message = h .message; taken = n; bytes = h .bytes; clock = h .clock }
+withTaken n h = record { low = h .low; high = h .high; message = h .message; kinds = h .kinds; taken = n; bytes = h .bytes; clock = h .clock }
 
 abbrev pub withBytes : ℕ → Held → Held
-withBytes n h = record { low = h .low; high = h .high; message = h .message; taken = h .taken; bytes = n; clock = h .clock }
+withBytes n h = record { low = h .low; high = h .high; message = h .message; kinds = h .kinds; taken = h .taken; bytes = n; clock = h .clock }
 
 abbrev pub withClock : Clock → Held → Held
-withClock c h = record { low = h .low; high = h .high; message = h .message; taken = h .taken; bytes = h .bytes; clock = c }
+withClock c h = record { low = h .low; high = h .high; message = h .message; kinds = h .kinds; taken = h .taken; bytes = h .bytes; clock = c }
 
 -- an execution with its own fields, of n keys
 abbrev pub processOf : ℕ → Held → Level → Process
 processOf n h l = record { execution = recordOf l h; fields = held n (h .message) l }
 
--- the state, where these lines were sent: they stand in the output memory, and a run holds none of them
+-- the state, where these lines were sent: they stand in the output memory, and a run holds none of them. Of the kinds there are as many as the low execution
+-- has made calls.
 unfoldable pub stateOf : StoredJob → List Sent → Held → State
 stateOf j sent h =
     record {
       processes = record { low = processOf (j .keys) h Low; high = processOf (j .keys) h High };
+      kinds = kindsIn (h .low .calls) (h .kinds);
       incoming = record { rest = drop (h .taken) (jobOf j .messages); taken = h .taken };
       outgoing = record { sent = sent; bytes = h .bytes };
       clock = h .clock;

@@ -3,7 +3,10 @@ use model::Answer;
 use model::Call;
 use model::Ending;
 use model::Execution;
+use model::LETTER_CAPACITY;
 use model::Level;
+use model::RECEIVED;
+use model::SENT;
 use model::StoredJob;
 use run_message::cleared;
 use run_message::received;
@@ -16,6 +19,7 @@ use run_step::holds;
 use run_step::index;
 use run_verdict::ended;
 use run_verdict::level_of;
+use run_verdict::made;
 use run_verdict::readable;
 use run_verdict::started;
 use run_verdict::taken_after;
@@ -42,6 +46,7 @@ pub fn run_job(job: StoredJob, out: &mut [u8]) -> Answer
     let mut low = Execution::begun();
     let mut high = Execution::begun();
     let mut message = cleared();
+    let mut kinds = [0u8; LETTER_CAPACITY];
     let mut clock = started();
     let mut bytes: usize = 0;
     let mut taken: usize = 0;
@@ -68,6 +73,8 @@ pub fn run_job(job: StoredJob, out: &mut [u8]) -> Answer
                             k += 1;
                         }
                         taken = taken_after(taken, job.message_count);
+                        let j = low.calls;
+                        kinds[j] = RECEIVED;
                         let next = low.called();
                         low.place = next.place;
                         low.calls = next.calls;
@@ -90,6 +97,8 @@ pub fn run_job(job: StoredJob, out: &mut [u8]) -> Answer
                         }
                         line_end(out, bytes, keys);
                         bytes = bytes + line_bytes;
+                        let j = low.calls;
+                        kinds[j] = SENT;
                         let next = low.called();
                         low.place = next.place;
                         low.calls = next.calls;
@@ -126,7 +135,8 @@ pub fn run_job(job: StoredJob, out: &mut [u8]) -> Answer
                     let c = job.commands[p];
                     let op = c.op;
                     let call = call_of(op);
-                    if waits(call, low.calls, high.calls) {
+                    let j = high.calls;
+                    if waits(call, made(j, low.calls, kinds[j])) {
                         clock = ticked(clock, Level::High);
                     } else {
                         let k = index(c.k);

@@ -5,12 +5,13 @@ use model::Clock;
 use model::Counts;
 use model::Ending;
 use model::Level;
+use model::RECEIVED;
 ghost use mathlib.Core.Path.{_≡_};
 ghost use mathlib.Core.Bool.{cond};
 ghost use Prim.Native.Nat.{_+_, _<_, _≤_};
 ghost use lib.Dec.{ltb};
-ghost use Rattle.model.specs.{Verdict.waits as Verdict·waits, Stored.levelOf, State.role, State.stepsBy, State.started as Clock·started, State.ticked as Clock·ticked};
-ghost use Rattle.model.specs.declared.Answer.the-variants.{Ended};
+ghost use Rattle.model.specs.{Verdict.waits as Verdict·waits, Stored.levelOf, Stored.kindOf, State.role, State.stepsBy, State.started as Clock·started, State.ticked as Clock·ticked};
+ghost use Rattle.model.specs.declared.{Answer.the-variants.Ended, Call.the-variants.Neither};
 ghost use Rattle.run_verdict.specs.Verdict.{CountsFit, countsAs};
 
 // The level whose turn a letter is.
@@ -37,14 +38,42 @@ pub fn taken_after(taken: usize, lines: usize) -> usize
     if taken < lines { taken + 1 } else { taken }
 }
 
-// Whether an execution that follows waits at its call: the one that leads has made no more calls than it.
-pub fn waits(call: Call, first: usize, own: usize) -> bool
-    ensures { λ r. ⌜ r ≡ Verdict·waits call first own ⌝ }
+// The kind of call that a byte stands for.
+fn kind_of(kind: u8) -> Call
+    ensures { λ r. ⌜ r ≡ kindOf kind ⌝ }
+{
+    if kind == RECEIVED {
+        return Call::Receives;
+    }
+    Call::Sends
+}
+
+// The kind of the leader's call number j, from 0, of the n that it has made; kind is the byte that stands at j. Neither where it has made none of that number.
+pub fn made(j: usize, n: usize, kind: u8) -> Call
+    ensures { λ r. ⌜ r ≡ cond (ltb j n) (kindOf kind) Neither ⌝ }
+{
+    if j < n {
+        return kind_of(kind);
+    }
+    Call::Neither
+}
+
+// Whether an execution that follows waits at its call: the leader's call of the same number has not been made, or was of the other kind.
+pub fn waits(call: Call, first: Call) -> bool
+    ensures { λ r. ⌜ r ≡ Verdict·waits call first ⌝ }
 {
     match call {
         Call::Neither => false,
-        Call::Receives => first <= own,
-        Call::Sends => first <= own,
+        Call::Receives => match first {
+            Call::Neither => true,
+            Call::Receives => false,
+            Call::Sends => true,
+        },
+        Call::Sends => match first {
+            Call::Neither => true,
+            Call::Receives => true,
+            Call::Sends => false,
+        },
     }
 }
 

@@ -1,51 +1,51 @@
 -- The loop keeps what `Inv` of proofs/Loop.antt says; every turn cites the law of its kind, and each ending the test that finds it.
 use Prim.Native.Nat.{ℕ, _+_, _-_, _*_, _<_, _≤_}
-use mathlib.Core.Path.{_≡_, refl, sym, ap, _∙_}
+use mathlib.Core.Path.{_≡_, refl, sym, ap, ap₂, _∙_}
 use mathlib.Core.Bool.{false}
 use mathlib.Core.List.{List, []}
 use native.Mathlib.{Omega.arith, Nat.add-zero}
 use borrow.Author.{Needs.needs, Needs.sfits-of, Tests.lt-ltb, Tests.le-ltb}
-use lib.{ListN.length, ListN.getD, ListN.length-set}
+use lib.{ListN.length, ListN.getD, ListN.length-set, ListN.length-replicate}
 use mir.{Syntax.w32, Val.toZ, Val.ofZ, ValLaws.toZ-ofZ}
-use Rattle.model.specs.{Step.variable, Step.callOf, Step.callsBy, Limits.variables, Stored.keyCapacity, Stored.messageCapacity}
+use Rattle.model.specs.{Step.variable, Step.callOf, Step.callsBy, Limits.variables, Stored.keyCapacity, Stored.messageCapacity, Stored.letterCapacity, Stored.kindOf}
 use Rattle.model.specs.{Stored.levelOf, Accepted.Within, State.ticked, Verdict.short, Verdict.waits, Verdict.verdictBy, Run.runJob, Answer.left}
 use Rattle.model.specs.{Answer.leftBy}
 use Rattle.model.specs.Stored as Stored
 use Rattle.model.specs.declared.{Call.Call, Level.Level, Execution.Execution, Clock.Clock, StoredJob.StoredJob, Answer.Answer}
 use Rattle.model.specs.declared.{Answer.the-variants.Ended}
 use Rattle.model.specs.declared.Ending.the-variants.{Stopped, NoRoom}
-use Rattle.model.specs.declared.Call.the-variants.{Sends}
+use Rattle.model.specs.declared.Call.the-variants.{Receives, Sends}
 use Rattle.model.specs.declared.Level.the-variants.{Low, High}
 use Rattle.run_step.proofs.Laws.{changedBy}
 use Rattle.run_verdict.specs.Verdict.{countsAs}
-use Rattle.run_job.specs.{Held.Held, Held.withTaken, Held.withMessage, Held.withBytes, Turn.Turned}
+use Rattle.run_job.specs.{Held.Held, Held.recordOf, Held.withTaken, Held.withMessage, Held.withBytes, Turn.Turned}
 use Rattle.run_job.proofs.{Views.commandAt, Views.Ready, Views.few, Views.below-or-first, Views.operands-at, Loop.Kept, Loop.Inv, Loop.begins, Loop.Small}
 use Rattle.run_job.proofs.{Loop.small, Loop.same-length, Loop.counts-fit, Loop.ends}
 use Rattle.run_job.proofs.{Loop.found-used, Loop.found-stopped, Loop.found-by, Loop.again, Loop.short-neither, Loop.short-receives, Loop.short-sends}
-use Rattle.run_job.proofs.{Turn.commanded, Turn.calledBy, Turn.receive-turn, Turn.send-turn, Turn.command-turn}
+use Rattle.run_job.proofs.{Turn.commanded, Turn.madeBefore, Turn.calledBy, Turn.receive-turn, Turn.send-turn, Turn.command-turn}
 use Rattle.run_job.proofs.{Turn.idle-turn, Turn.ends-idle, Turn.waits-here}
 use Rattle.run_job.proofs.Keys.{Filling, Writing, fill-more, fill-done, write-more, write-done}
 use Rattle.run_job.proofs.run_job.Statement.{statement}
 use Rattle.run_job.proofs.run_job.Tie as tie
 
 abbrev Inv-loop2 : tie.InvT-loop2
-Inv-loop2 out job keys count line-bytes low high message₀ clock bytes taken at p t line more k₀ message k = Filling job line more message k
+Inv-loop2 out job keys count line-bytes low high message₀ kinds clock bytes taken at p t line more k₀ message k = Filling job line more message k
 
 abbrev μ-loop2 : tie.MeasureT-loop2
-μ-loop2 out job keys count line-bytes low high message₀ clock bytes taken at p t line more k₀ message k = keys - k
+μ-loop2 out job keys count line-bytes low high message₀ kinds clock bytes taken at p t line more k₀ message k = keys - k
 
 abbrev Inv-loop3 : tie.InvT-loop3
-Inv-loop3 out₀ job keys count line-bytes low high message clock bytes taken at p k₀ out k = Writing job message bytes out₀ out k
+Inv-loop3 out₀ job keys count line-bytes low high message kinds clock bytes taken at p k₀ out k = Writing job message bytes out₀ out k
 
 abbrev μ-loop3 : tie.MeasureT-loop3
-μ-loop3 out₀ job keys count line-bytes low high message clock bytes taken at p k₀ out k = keys - k
+μ-loop3 out₀ job keys count line-bytes low high message kinds clock bytes taken at p k₀ out k = keys - k
 
 abbrev Inv-loop : tie.InvT-loop
-Inv-loop out₀ job keys count line-bytes low₀ high₀ message₀ clock₀ bytes₀ taken₀ out low high message clock bytes taken =
-    Inv job out₀ (record { low = low; high = high; message = message; taken = taken; bytes = bytes; clock = clock }) out
+Inv-loop out₀ job keys count line-bytes low₀ high₀ message₀ kinds₀ clock₀ bytes₀ taken₀ out low high message kinds clock bytes taken =
+    Inv job out₀ (record { low = low; high = high; message = message; kinds = kinds; taken = taken; bytes = bytes; clock = clock }) out
 
 abbrev μ-loop : tie.MeasureT-loop
-μ-loop out₀ job keys count line-bytes low₀ high₀ message₀ clock₀ bytes₀ taken₀ out low high message clock bytes taken =
+μ-loop out₀ job keys count line-bytes low₀ high₀ message₀ kinds₀ clock₀ bytes₀ taken₀ out low high message kinds clock bytes taken =
     job .«turn_count» - clock .positions
 
 -- ---- The points of the code: each from the next one that an answer names. A new statement moves one of these lines.
@@ -57,7 +57,7 @@ abbrev jobOf : tie.At-loop Inv-loop2 μ-loop2 Inv-loop3 μ-loop3 Inv-loop μ-loo
 jobOf c = callerOf c .args .t1
 
 abbrev heldAt : tie.At-loop Inv-loop2 μ-loop2 Inv-loop3 μ-loop3 Inv-loop μ-loop → Held
-heldAt c = record { low = c .loop .low; high = c .loop .high; message = c .loop .message; taken = c .loop .taken; bytes = c .loop .bytes; clock = c .loop .clock }
+heldAt c = record { low = c .loop .low; high = c .loop .high; message = c .loop .message; kinds = c .loop .kinds; taken = c .loop .taken; bytes = c .loop .bytes; clock = c .loop .clock }
 
 abbrev loopOf : tie.After-level-of Inv-loop2 μ-loop2 Inv-loop3 μ-loop3 Inv-loop μ-loop → tie.At-loop Inv-loop2 μ-loop2 Inv-loop3 μ-loop3 Inv-loop μ-loop
 loopOf c = c .before .before .before
@@ -72,8 +72,9 @@ loop-holds c =
     let low = high .before in
     let start = low .before .before in
     record {
-      kept = begins (start .pre) _ _ _ _ _ (low .begun .ensures) (high .begun2 .ensures) (cleared .cleared .ensures) (c .started .ensures);
+      kept = begins (start .pre) _ _ _ _ _ _ (low .begun .ensures) (high .begun2 .ensures) (cleared .cleared .ensures) (c .started .ensures);
       full = ap length (cleared .cleared .ensures);
+      noted = length-replicate {A = ℕ} letterCapacity 0;
       live = omega (arith, ap (λ (x : Execution). x .place) (low .begun .ensures), few (start .pre) .some);
     }
 
@@ -86,7 +87,7 @@ ticks : (c : tie.At-loop Inv-loop2 μ-loop2 Inv-loop3 μ-loop3 Inv-loop μ-loop)
 ticks c = (omega (arith, small-at c .positions), omega (arith, small-at c .steps))
 
 calls-low : (c : tie.At-loop Inv-loop2 μ-loop2 Inv-loop3 μ-loop3 Inv-loop μ-loop) → (c .loop .low .place < 4294967296) × (c .loop .low .calls < 4294967296)
-calls-low c = (omega (arith, c .loop .inv .live, few (ready c) .commands), omega (arith, small-at c .calls Low))
+calls-low c = (omega (arith, c .loop .inv .live, few (ready c) .commands), omega (arith, small-at c .calls Low, small-at c .positions))
 
 -- ---- Whose turn it is
 
@@ -95,6 +96,10 @@ more c = omega (arith, c .before .before .if1 .left)
 
 level-is : (c : tie.After-level-of Inv-loop2 μ-loop2 Inv-loop3 μ-loop3 Inv-loop μ-loop) → levelOf (getD (jobOf (loopOf c) .turns) (loopOf c .loop .clock .positions) 0) ≡ c .level-of .result
 level-is c = sym (c .level-of .ensures)
+
+-- a call more has its place in the array of kinds
+kinds-inside : (c : tie.After-level-of Inv-loop2 μ-loop2 Inv-loop3 μ-loop3 Inv-loop μ-loop) (l : Level) → recordOf l (heldAt (loopOf c)) .calls < length (loopOf c .loop .kinds)
+kinds-inside c l = let at = loopOf c in omega (arith, small-at at .calls l, more c, few (ready at) .letters, at .loop .inv .noted)
 
 -- a turn leaves fewer letters
 fewer : (c : tie.After-level-of Inv-loop2 μ-loop2 Inv-loop3 μ-loop3 Inv-loop μ-loop) (l : Level) (t : Clock) → t ≡ ticked l (loopOf c .loop .clock)
@@ -171,11 +176,11 @@ filledOf c = c .before .before .before
 abbrev receiveOf : tie.After-ticked Inv-loop2 μ-loop2 Inv-loop3 μ-loop3 Inv-loop μ-loop → tie.After-enum-told2 Inv-loop2 μ-loop2 Inv-loop3 μ-loop3 Inv-loop μ-loop
 receiveOf c = fillOf (filledOf c .before)
 
-after-receive : (c : tie.After-ticked Inv-loop2 μ-loop2 Inv-loop3 μ-loop3 Inv-loop μ-loop) →
+after-receive : (b : ℕ) → kindOf b ≡ Receives → (c : tie.After-ticked Inv-loop2 μ-loop2 Inv-loop3 μ-loop3 Inv-loop μ-loop) →
     let low = receiveLow (receiveOf c) in
     let m = filledOf c .before .loop2 .message in
-    Low-kept low (calledBy (c .before .called .result) (c .ticked .result) (withTaken (c .before .before .taken-after .result) (withMessage m (heldAt (lowLoop low))))) (lowLoop low .loop .out)
-after-receive c =
+    Low-kept low (calledBy b (c .before .called .result) (c .ticked .result) (withTaken (c .before .before .taken-after .result) (withMessage m (heldAt (lowLoop low))))) (lowLoop low .loop .out)
+after-receive b kind c =
     let n = c .before .before in
     let at = filledOf c .before in
     let i = at .loop2 in
@@ -185,8 +190,8 @@ after-receive c =
     let call = sym (t .before .before .call-of .ensures) ∙ t .enum-told2 .given .1 in
     let place = at .before .before .readable in
     goes-on low call (short-receives _ _)
-    (receive-turn (ready l) (l .loop .inv .kept .sent) (heldAt l) (l .loop .inv .live) (c .ticked .result) (c .ticked .ensures) (c .before .called .result) (c .before .called .ensures)
-    call (place .result) (record { slots = [] }) (place .ensures) (i .message) (fill-done (ready l) (i .inv) (filledOf c .loop2-test .left))
+    (receive-turn (ready l) (l .loop .inv .kept .sent) (heldAt l) (l .loop .inv .live) (kinds-inside (lowLetter low) Low) (c .ticked .result) (c .ticked .ensures) (c .before .called .result) (c .before .called .ensures)
+    b kind call (place .result) (record { slots = [] }) (place .ensures) (i .message) (fill-done (ready l) (i .inv) (filledOf c .loop2-test .left))
     (n .taken-after .result) (n .taken-after .ensures) _)
 
 -- a send
@@ -240,18 +245,18 @@ cellsOf c = c .before .before .before .before .before .before
 abbrev writeOf : tie.After-ticked2 Inv-loop2 μ-loop2 Inv-loop3 μ-loop3 Inv-loop μ-loop → tie.At-loop3 Inv-loop2 μ-loop2 Inv-loop3 μ-loop3 Inv-loop μ-loop
 writeOf c = cellsOf c .before
 
-after-send : (c : tie.After-ticked2 Inv-loop2 μ-loop2 Inv-loop3 μ-loop3 Inv-loop μ-loop) →
+after-send : (b : ℕ) → kindOf b ≡ Sends → (c : tie.After-ticked2 Inv-loop2 μ-loop2 Inv-loop3 μ-loop3 Inv-loop μ-loop) →
     let low = sendLow (roomOf (writeOf c) .before) in
     let h = heldAt (lowLoop low) in
-    Low-kept low (calledBy (c .before .called2 .result) (c .ticked2 .result) (withBytes (h .bytes + (10 + 12 * jobOf (lowLoop low) .keys)) h)) (c .before .before .before .before .line-end .last .0)
-after-send c =
+    Low-kept low (calledBy b (c .before .called2 .result) (c .ticked2 .result) (withBytes (h .bytes + (10 + 12 * jobOf (lowLoop low) .keys)) h)) (c .before .before .before .before .line-end .last .0)
+after-send b kind c =
     let at = writeOf c in
     let e = roomOf at .before in
     let low = sendLow e in
     let l = lowLoop low in
     goes-on low (call-send e) (short-sends _ _ ∙ le-ltb _ _ (roomOf at .if3 .left))
-    (send-turn (ready l) (l .loop .inv .kept .sent) (heldAt l) (l .loop .inv .live) (c .ticked2 .result) (c .ticked2 .ensures) (c .before .called2 .result) (c .before .called2 .ensures)
-    (call-send e) (10 + 12 * jobOf l .keys) refl _ _
+    (send-turn (ready l) (l .loop .inv .kept .sent) (heldAt l) (l .loop .inv .live) (kinds-inside (lowLetter low) Low) (c .ticked2 .result) (c .ticked2 .ensures) (c .before .called2 .result) (c .before .called2 .ensures)
+    b kind (call-send e) (10 + 12 * jobOf l .keys) refl _ _
     (write-done (ready l) (at .loop3 .inv) (cellsOf c .loop3-test .left) (l .loop .out) (l .loop .clock .positions) (headedOf at .heading .ensures)
     _ (c .before .before .before .before .line-end .ensures)))
 
@@ -328,13 +333,14 @@ module _ (c : tie.After-enum-told5 Inv-loop2 μ-loop2 Inv-loop3 μ-loop3 Inv-loo
   high = highLoop c
 
   -- what the high execution's turn leaves; the low one goes on from where it is
-  passes : {h : Held} → Turned (jobOf high) High (high .loop .inv .kept .sent) (heldAt high) h (high .loop .out) (high .loop .out) → h .low ≡ high .loop .low → length (h .message) ≡ keyCapacity
+  passes : {h : Held} → Turned (jobOf high) High (high .loop .inv .kept .sent) (heldAt high) h (high .loop .out) (high .loop .out) → h .low ≡ high .loop .low → h .kinds ≡ high .loop .kinds → length (h .message) ≡ keyCapacity
       → Inv (jobOf high) (callerOf high .args .out .now) h (high .loop .out)
-  passes t same full =
+  passes t same kinds full =
       let i = high .loop .inv in
       record {
         kept = again (ready high) (i .kept) (i .live) (more (highLetter c)) High (level-is (highLetter c) ∙ c .enum-told5 .given .1) refl t;
         full = full;
+        noted = ap length kinds ∙ i .noted;
         live = omega (arith, i .live, ap (λ (x : Execution). x .place) same);
       }
 
@@ -343,7 +349,7 @@ loop-again-4 c =
     let t = c .before .before in
     let l = highLoop t in
     let idle = ends-idle (ready l) (l .loop .inv .kept .sent) (heldAt l) High (c .before .if6 .taken) in
-    passes t (idle-turn (ready l) (l .loop .inv .kept .sent) (heldAt l) High refl idle _ (c .ticked4 .ensures) _) refl (l .loop .inv .full)
+    passes t (idle-turn (ready l) (l .loop .inv .kept .sent) (heldAt l) High refl idle _ (c .ticked4 .ensures) _) refl refl (l .loop .inv .full)
 
 -- the high execution is not at the end
 abbrev highOf : tie.Else6 Inv-loop2 μ-loop2 Inv-loop3 μ-loop3 Inv-loop μ-loop → tie.After-enum-told5 Inv-loop2 μ-loop2 Inv-loop3 μ-loop3 Inv-loop μ-loop
@@ -353,22 +359,20 @@ high-live : (c : tie.Else6 Inv-loop2 μ-loop2 Inv-loop3 μ-loop3 Inv-loop μ-loo
 high-live c = omega (arith, c .if6 .left)
 
 abbrev goingOf : tie.After-waits Inv-loop2 μ-loop2 Inv-loop3 μ-loop3 Inv-loop μ-loop → tie.Else6 Inv-loop2 μ-loop2 Inv-loop3 μ-loop3 Inv-loop μ-loop
-goingOf c = c .before .before .before
+goingOf c = c .before .before .before .before
 
 waits-is : (c : tie.After-waits Inv-loop2 μ-loop2 Inv-loop3 μ-loop3 Inv-loop μ-loop) →
     let l = highLoop (highOf (goingOf c)) in
-    waits (callOf (commandAt (jobOf l .commands) (l .loop .high .place) .op)) (l .loop .low .calls) (l .loop .high .calls) ≡ c .waits .result
-waits-is c =
-    let l = highLoop (highOf (goingOf c)) in
-    sym (c .waits .ensures ∙ ap (λ (k : Call). waits k (l .loop .low .calls) (l .loop .high .calls)) (c .before .call-of2 .ensures))
+    waits (callOf (commandAt (jobOf l .commands) (l .loop .high .place) .op)) (madeBefore (l .loop .high .calls) (l .loop .low .calls) (l .loop .kinds)) ≡ c .waits .result
+waits-is c = sym (c .waits .ensures ∙ ap₂ waits (c .before .before .call-of2 .ensures) (c .before .made .ensures))
 
 loop-again-5 : tie.Need-loop-again-5 Inv-loop2 μ-loop2 Inv-loop3 μ-loop3 Inv-loop μ-loop
 loop-again-5 c =
     let w = c .before .before in
     let g = goingOf w in
     let l = highLoop (highOf g) in
-    let idle = waits-here (ready l) (l .loop .inv .kept .sent) (heldAt l) High (high-live g) ∙ waits-is w ∙ c .before .if7 .taken in
-    passes (highOf g) (idle-turn (ready l) (l .loop .inv .kept .sent) (heldAt l) High refl idle _ (c .ticked5 .ensures) _) refl (l .loop .inv .full)
+    let idle = waits-here (ready l) (l .loop .inv .kept .sent) (heldAt l) High (high-live g) (kinds-inside (highLetter (highOf g)) High) ∙ waits-is w ∙ c .before .if7 .taken in
+    passes (highOf g) (idle-turn (ready l) (l .loop .inv .kept .sent) (heldAt l) High refl idle _ (c .ticked5 .ensures) _) refl refl (l .loop .inv .full)
 
 abbrev movesOf : tie.After-index6 Inv-loop2 μ-loop2 Inv-loop3 μ-loop3 Inv-loop μ-loop → tie.Else7 Inv-loop2 μ-loop2 Inv-loop3 μ-loop3 Inv-loop μ-loop
 movesOf c = c .before .before .before .before
@@ -416,12 +420,12 @@ loop-again-6 c =
     let l = highLoop (highOf g) in
     let x = l .loop .high in
     passes (highOf g)
-    (command-turn (ready l) (l .loop .inv .kept .sent) (heldAt l) High (high-live g) (waits-is (e .before) ∙ e .if7 .left)
+    (command-turn (ready l) (l .loop .inv .kept .sent) (heldAt l) High (high-live g) (kinds-inside (highLetter (highOf g)) High, waits-is (e .before) ∙ e .if7 .left)
     _ _ _ (ik .index4 .ensures) (iv .index5 .ensures) (o .index6 .ensures)
     _ _ (toZ-ofZ w32 (variable x (iv .index5 .result)) (sfits-of (f .before .before .effect-at-arg3 .given))) (toZ-ofZ w32 (variable x (o .index6 .result)) (sfits-of (f .before .effect-at-arg4 .given)))
-    _ (f .before .before .before .side2 .ensures) _ (f .effect-at2 .ensures) _ (ap (λ (m : ℕ). x .calls + m) (by .calls-by .ensures .0 ∙ ap callsBy (e .before .before .call-of2 .ensures))) _ (value-high told)
+    _ (f .before .before .before .side2 .ensures) _ (f .effect-at2 .ensures) _ (ap (λ (m : ℕ). x .calls + m) (by .calls-by .ensures .0 ∙ ap callsBy (e .before .before .before .call-of2 .ensures))) _ (value-high told)
     _ (n .after2 .ensures) _ (held-high z ∙ z .holds2 .ensures) _ (w .with2 .ensures) _ (c .ticked6 .ensures) _)
-    refl (simp length-set (l .loop .inv .full))
+    refl refl (simp length-set (l .loop .inv .full))
 
 -- ---- All of it
 
@@ -445,12 +449,13 @@ run-job-spec =
     (λ c. omega (arith, key-in c)) (λ c. omega (arith, key-in c)) (λ c. omega (arith, key-in (c .before))) (λ c. omega (arith, key-in (c .before)))
     (λ c κs. search needs) (λ c. omega (arith, key-in (c .before .before .before))) (λ c. omega (arith, key-in (c .before .before .before)))
     (λ c. omega (arith, key-in (c .before .before .before))) (λ c. omega (arith, c .before .before .before .loop2-test .taken)) loop2-again (λ c κs. search needs)
+    (λ c. let low = receiveLow (fillOf (c .before .before)) in omega (arith, kinds-inside (lowLetter low) Low, lowLoop low .loop .inv .noted))
     (λ c κs. calls-low (lowLoop (receiveLow (fillOf (c .before .before))))) (λ c κs. ticks (lowLoop (receiveLow (fillOf (c .before .before .before)))))
-    (λ c κs. let t = c .before in counts-fit (ready (lowLoop (receiveLow (receiveOf t)))) (after-receive t))
-    (λ c. let t = c .before .before in same-length (ready (lowLoop (receiveLow (receiveOf t)))) (after-receive t))
-    (λ c. let t = c .before .before in stops (receiveLow (receiveOf t)) (after-receive t) (c .before .if2 .taken) (c .ended2 .result) (c .ended2 .ensures))
+    (λ c κs. let t = c .before in counts-fit (ready (lowLoop (receiveLow (receiveOf t)))) (after-receive 0 refl t))
+    (λ c. let t = c .before .before in same-length (ready (lowLoop (receiveLow (receiveOf t)))) (after-receive 0 refl t))
+    (λ c. let t = c .before .before in stops (receiveLow (receiveOf t)) (after-receive 0 refl t) (c .before .if2 .taken) (c .ended2 .result) (c .ended2 .ensures))
     (λ c. let t = c .before in fewer (lowLetter (receiveLow (receiveOf t))) Low _ (t .ticked .ensures))
-    (λ c. record { kept = after-receive (c .before); full = filledOf (c .before) .before .loop2 .inv .full; live = omega (arith, c .if2 .left) }) (λ c. search needs)
+    (λ c. record { kept = after-receive _ refl (c .before); full = filledOf (c .before) .before .loop2 .inv .full; noted = simp length-set (lowLoop (receiveLow (receiveOf (c .before))) .loop .inv .noted); live = omega (arith, c .if2 .left) }) (λ c. search needs)
     (λ c. omega (arith, small-at (lowLoop (sendLow c)) .room)) (λ c κs. let l = lowLoop (sendLow (c .before)) in counts-fit (ready l) (l .loop .inv .kept))
     (λ c. let l = lowLoop (sendLow (c .before .before)) in same-length (ready l) (l .loop .inv .kept)) returns-3 heading-requires
     (λ c. record { same = refl; most = omega arith; rest = refl })
@@ -460,12 +465,13 @@ run-job-spec =
     (λ c. omega (arith, c .before .before .before .before .before .before .loop3-test .taken)) loop3-again
     (λ c κs. let at = c .before .before in (few (ready (sentFrom at)) .keys, room-left at))
     (λ c. let l = sentFrom (c .before .before .before .before .before) in omega (arith, small-at l .bytes, few (ready l) .keys))
+    (λ c. let at = c .before .before .before .before .before in omega (arith, kinds-inside (lowLetter (sendLow (roomOf at .before))) Low, sentFrom at .loop .inv .noted))
     (λ c κs. calls-low (sentFrom (c .before .before .before .before .before))) (λ c κs. ticks (sentFrom (c .before .before .before .before .before .before)))
-    (λ c κs. let t = c .before in counts-fit (ready (sentFrom (writeOf t))) (after-send t))
-    (λ c. let t = c .before .before in same-length (ready (sentFrom (writeOf t))) (after-send t))
-    (λ c. let t = c .before .before in stops (sendLow (roomOf (writeOf t) .before)) (after-send t) (c .before .if4 .taken) (c .ended4 .result) (c .ended4 .ensures))
+    (λ c κs. let t = c .before in counts-fit (ready (sentFrom (writeOf t))) (after-send 1 refl t))
+    (λ c. let t = c .before .before in same-length (ready (sentFrom (writeOf t))) (after-send 1 refl t))
+    (λ c. let t = c .before .before in stops (sendLow (roomOf (writeOf t) .before)) (after-send 1 refl t) (c .before .if4 .taken) (c .ended4 .result) (c .ended4 .ensures))
     (λ c. let t = c .before in fewer (lowLetter (sendLow (roomOf (writeOf t) .before))) Low _ (t .ticked2 .ensures))
-    (λ c. record { kept = after-send (c .before); full = sentFrom (writeOf (c .before)) .loop .inv .full; live = omega (arith, c .if4 .left) })
+    (λ c. record { kept = after-send _ refl (c .before); full = sentFrom (writeOf (c .before)) .loop .inv .full; noted = simp length-set (sentFrom (writeOf (c .before)) .loop .inv .noted); live = omega (arith, c .if4 .left) })
     (λ c. search needs) (λ c κs. search needs)
     (λ c. omega (arith, key-low c)) (λ c. omega (arith, key-low c)) (λ c κs. search needs) (λ c κs. search needs) (λ c κs. search needs)
     (λ c. omega (arith, v-low (c .before .before))) (λ c. omega (arith, v-low (c .before .before)))
@@ -478,16 +484,17 @@ run-job-spec =
     (λ c. let t = c .before .before in same-length (ready (lowLoop (commandLow (keyLow (t .before) .before)))) (after-command t))
     (λ c. let t = c .before .before in stops (commandLow (keyLow (t .before) .before)) (after-command t) (c .before .if5 .taken) (c .ended5 .result) (c .ended5 .ensures))
     (λ c. let t = c .before in fewer (lowLetter (commandLow (keyLow (t .before) .before))) Low _ (t .ticked3 .ensures))
-    (λ c. record { kept = after-command (c .before); full = simp length-set (lowLoop (commandLow (keyLow (c .before .before) .before)) .loop .inv .full); live = omega (arith, c .if5 .left) })
+    (λ c. record { kept = after-command (c .before); full = simp length-set (lowLoop (commandLow (keyLow (c .before .before) .before)) .loop .inv .full); noted = lowLoop (commandLow (keyLow (c .before .before) .before)) .loop .inv .noted; live = omega (arith, c .if5 .left) })
     (λ c. search needs) (λ c κs. ticks (highLoop (c .before))) (λ c. fewer (highLetter (c .before .before)) High _ (c .ticked4 .ensures)) loop-again-4
     (λ c. omega (arith, high-live c, few (ready (highLoop (highOf c))) .commands)) (λ c. omega (arith, high-live c, few (ready (highLoop (highOf c))) .commands))
+    (λ c κs. search needs) (λ c. let t = highOf (c .before .before) in omega (arith, kinds-inside (highLetter t) High, highLoop t .loop .inv .noted))
     (λ c κs. search needs) (λ c κs. search needs) (λ c κs. ticks (highLoop (highOf (goingOf (c .before)))))
     (λ c. fewer (highLetter (highOf (goingOf (c .before .before)))) High _ (c .ticked5 .ensures)) loop-again-5 (λ c κs. search needs)
     (λ c. omega (arith, key-high c)) (λ c. omega (arith, key-high c)) (λ c κs. search needs) (λ c κs. search needs) (λ c κs. search needs)
     (λ c. omega (arith, v-high (c .before .before))) (λ c. omega (arith, v-high (c .before .before)))
     (λ c. omega (arith, w-high (c .before .before))) (λ c. omega (arith, w-high (c .before .before)))
     (λ c κs. high-live (goingOf (movesOf (c .before .before .before) .before))) (λ c κs. search needs)
-    (λ c. omega (arith, c .calls-by .ensures .1, small-at (highLoop (highOf (goingOf (movesOf (c .before .before .before .before .before) .before)))) .calls High))
+    (λ c. let at = highLoop (highOf (goingOf (movesOf (c .before .before .before .before .before) .before))) in omega (arith, c .calls-by .ensures .1, small-at at .calls High, small-at at .positions))
     (λ c κs. v-high (effectHigh c .before)) (λ c κs. v-high (effectHigh (c .before) .before))
     (λ c. omega (arith, v-high (effectHigh (c .before .before) .before))) (λ c. omega (arith, v-high (effectHigh (c .before .before) .before))) (λ c κs. search needs)
     (λ c. omega (arith, key-high (keyHigh c))) (λ c. omega (arith, key-high (keyHigh c))) (λ c κs. ticks (highLoop (highOf (goingOf (keyHigh c .before .before)))))

@@ -1,4 +1,4 @@
--- The three kinds of call.
+-- The kinds of call, and of the call that it is held to.
 use borrow.Author.Needs.{needs}
 use Rattle.model.specs.Verdict.{waits}
 use Rattle.run_verdict.proofs.waits.Statement.{statement}
@@ -9,7 +9,12 @@ unfolding waits
 waits-spec =
     tie.close
     (tie.spec
+    (λ c. search needs) (λ c. search needs) (λ c. search needs) (λ c. search needs) (λ c. search needs) (λ c. search needs)
     (λ c. search needs) (λ c. search needs) (λ c. search needs)
     (λ c. simp (c .enum-told .given .1))
-    (λ c. simp (c .enum-told2 .given .1))
-    (λ c. simp (c .enum-told3 .given .1)))
+    (λ c. simp (c .before .before .enum-told2 .given .1, c .enum-told3 .given .1))
+    (λ c. simp (c .before .before .enum-told2 .given .1, c .enum-told4 .given .1))
+    (λ c. simp (c .before .before .enum-told2 .given .1, c .enum-told5 .given .1))
+    (λ c. simp (c .before .before .enum-told6 .given .1, c .enum-told7 .given .1))
+    (λ c. simp (c .before .before .enum-told6 .given .1, c .enum-told8 .given .1))
+    (λ c. simp (c .before .before .enum-told6 .given .1, c .enum-told9 .given .1)))

@@ -1,0 +1,204 @@
+-- What is claimed of the kinds of calls holds.
+use Prim.Native.Nat.{ℕ, _+_, _-_, _<_}
+use mathlib.Core.Path.{_≡_, refl, sym, _∙_, ap, subst}
+use mathlib.Core.Logic.{_≢_}
+use mathlib.Core.Bool.{Bool, true, false, cond}
+use mathlib.Core.List.{List, [], _∷_, _++_, append-nil}
+use lib.{ListN.length, ListN.getD, ListN.take, ListN.drop, ListN.length-append, ListN.List·getD-append, ListN.List·getD-eq-default, Seq.take-add}
+use native.Mathlib.{Omega.arith, Decide.decLt}
+use Rattle.model.specs.{Command.blank, Step.callOf, Step.callsBy, State.Process, State.State, State.Role, State.leads, State.follows, State.role, State.leader}
+use Rattle.model.specs.{State.step, State.command, State.stopped, State.at, State.process, Verdict.kindAt, Verdict.waits, Verdict.idles, Run.share, Run.lead, Run.waitsAt, Run.unlessIdle}
+use Rattle.model.specs.{Run.followed, Run.following, Run.moved, Run.turnBy, Run.turn, Run.ended, Run.initial, Run.fresh, Run.Rule, Run.runJobBy, Run.runJob, Answer.runSheet, Examples.AllHold}
+use Rattle.model.specs.Data.{Key, Set, Command, Call, Neither, Receives, Sends, Level, High, Execution}
+use Rattle.model.specs.CallKinds.{MovesOn, AlwaysMovesOn, OtherKind, afterTurns, stateAfter, IdlesOn, AlwaysIdles, waitsBefore, followingBefore}
+use Rattle.model.specs.CallKinds.{OnlySecretColumns, OnlySecretColumnsOfSheets, sheetWith, MakersSheet, examples}
+use Rattle.model.proofs.{Levels.Changed, Levels.same, Levels.other, Levels.changed, Levels.put-beside, Turn.callAt, Turn.kindsBy, Turn.share-execution, Turn.share-kinds}
+use Rattle.model.proofs.{Levels.low≢high, Levels.follower, Turn.turn-kinds, Counted.run-of, Counted.used-all, Counted.counts-of, Examples.opened}
+use Rattle.model.proofs.{Lockstep.RulesAgree, Lockstep.run-alike, Lockstep.initial-alike, Secrecy.rest-alike, Secrecy.indistinguishable}
+
+-- ---- The rule
+
+-- a call that does not wait is held to one of its kind
+agree : (k j : Call) → k ≢ Neither → waits k j ≢ true → (j ≢ Neither) × (j ≡ k)
+unfolding waits
+agree Neither j n d = absurd (n refl)
+agree Receives Neither n d = absurd (d refl)
+agree Receives Receives n d = (n, refl)
+agree Receives Sends n d = absurd (d refl)
+agree Sends Neither n d = absurd (d refl)
+agree Sends Receives n d = absurd (d refl)
+agree Sends Sends n d = (n, refl)
+
+-- one of its kind lets it go
+alike : (k : Call) → waits k k ≡ false
+unfolding waits
+alike Neither = refl
+alike Receives = refl
+alike Sends = refl
+
+waits-or-not : (b : Bool) → (b ≢ true → ⊥) → b ≡ true
+waits-or-not true n = refl
+waits-or-not false n = absurd (n (λ e. let z : _≡_ {A = ℕ} 1 0 = ap (λ (x : Bool). cond x 0 1) e in omega arith))
+
+-- one that waits idles, wherever it is
+idles-on : (b : Bool) → idles b true ≡ true
+unfolding idles
+idles-on true = refl
+idles-on false = refl
+
+module _ (cs : List Command) (kinds : List Call) (p : Process) where
+  abbrev own : Call
+  own = callOf (command cs p .op)
+
+  abbrev low : Call
+  low = kindAt kinds (p .execution .calls)
+
+  waiting : waits own low ≡ true → followed cs kinds p ≡ p
+  unfolding followed waitsAt
+  waiting e = ap (λ (w : Bool). unlessIdle cs w p) e ∙ ap (λ (b : Bool). cond b p (step (length cs) (command cs p) p)) (idles-on (stopped cs p))
+
+  made-if : low ≢ Neither → p .execution .calls < length kinds
+  made-if n = go (decLt (p .execution .calls) (length kinds))
+    where
+      go : Dec (p .execution .calls < length kinds) → p .execution .calls < length kinds
+      go (yes b) = b
+      go (no b) = absurd (n (List·getD-eq-default kinds Neither (omega arith)))
+
+  pub moves-on : MovesOn cs kinds p
+  unfolding followed waitsAt idles
+  moves-on =
+      record {
+        only = λ call moves. let a = agree own low call (λ e. moves (waiting e)) in record { made = made-if (a .0); kind = a .1 };
+        does = λ going k. rw (going, k .kind, alike own);
+      }
+
+  -- a call of the other kind waits
+  pub idle : OtherKind cs kinds p → followed cs kinds p ≡ p
+  idle h = waiting (waits-or-not (waits own low) (λ n. h .other (agree own low (h .call) n .1)))
+
+  -- it is one still where the execution's record is the same and kinds have come behind those that there were
+  pub still : (q : Process) (more : List Call) → q .execution ≡ p .execution → OtherKind cs kinds p → OtherKind cs (kinds ++ more) q
+  unfolding command
+  still q more e h =
+      let calls : q .execution .calls ≡ p .execution .calls = ap (λ (x : Execution). x .calls) e in
+      let same-own : callOf (command cs q .op) ≡ own = ap (λ (x : Execution). callOf (getD cs (x .place) (blank Set) .op)) e in
+      let same-low : kindAt (kinds ++ more) (q .execution .calls) ≡ low = ap (kindAt (kinds ++ more)) calls ∙ List·getD-append kinds more Neither _ (h .made) in
+      record {
+        call = λ n. h .call (sym same-own ∙ n);
+        made = omega (arith, h .made, calls, length-append kinds more);
+        other = λ n. h .other (sym same-low ∙ n ∙ same-own);
+      }
+
+pub always-moves-on : AlwaysMovesOn
+always-moves-on = moves-on
+
+-- ---- The rest of a run
+
+module _ (ks : List Key) (cs : List Command) where
+  -- what a turn leaves of an execution that is at a call of the other kind: its record, and the kinds with more behind them
+  record Left (l : Level) (s t : State) : Type 0 where
+    execution : process l t .execution ≡ process l s .execution
+    more : List Call
+    kinds : t .kinds ≡ s .kinds ++ more
+
+  put-idle : {m l : Level} → Changed m l → (s : State) → OtherKind cs (s .kinds) (process l s)
+      → process l (moved following follows ks cs m s) .execution ≡ process l s .execution
+  put-idle {m} {l} (same e f) s h =
+      let own : OtherKind cs (s .kinds) (process m s) = subst (λ (n : Level). OtherKind cs (s .kinds) (process n s)) (sym e) h in
+      ap (λ (p : Process). p .execution) (f _ (s .processes) ∙ idle cs (s .kinds) (process m s) own ∙ ap (λ (n : Level). process n s) e)
+  put-idle (other f) s h = ap (λ (p : Process). p .execution) (f _ (s .processes))
+
+  move-left : (r : Role) (m l : Level) → role l ≡ follows → (s : State) → OtherKind cs (s .kinds) (process l s) → Left l s (moved following r ks cs m s)
+  unfolding lead
+  move-left leads m l f s h =
+      let k = callAt ks cs s leader in
+      record {
+        execution = ap (λ (p : Process). p .execution) (put-beside l f _ (share k ks s .processes)) ∙ share-execution ks s k l;
+        more = kindsBy k;
+        kinds = share-kinds ks s k;
+      }
+  move-left follows m l f s h = record { execution = put-idle (changed m l) s h; more = []; kinds = sym (append-nil (s .kinds)) }
+
+  turn-left : (m l : Level) → role l ≡ follows → (s : State) → OtherKind cs (s .kinds) (process l s) → Left l s (turn ks cs m s)
+  unfolding turnBy
+  turn-left m l f s h = let t = move-left (role m) m l f s h in record { execution = t .execution; more = t .more; kinds = t .kinds }
+
+  pub idles-for : (l : Level) → role l ≡ follows → (s : State) → OtherKind cs (s .kinds) (process l s) → (ls : List Level) → process l (afterTurns ks cs ls s) .execution ≡ process l s .execution
+  unfolding afterTurns
+  idles-for l f s h [] = refl
+  idles-for l f s h (m ∷ ls) =
+      let t = turn-left m l f s h in
+      let there = subst (λ (kinds : List Call). OtherKind cs kinds (process l (turn ks cs m s))) (sym (t .kinds)) (still cs (s .kinds) (process l s) (process l (turn ks cs m s)) (t .more) (t .execution) h) in
+      idles-for l f (turn ks cs m s) there ls ∙ t .execution
+
+  -- the turns of two lists of letters, one behind the other
+  turns-append : (xs ys : List Level) (s : State) → afterTurns ks cs (xs ++ ys) s ≡ afterTurns ks cs ys (afterTurns ks cs xs s)
+  unfolding afterTurns
+  turns-append [] ys s = refl
+  turns-append (x ∷ xs) ys s = turns-append xs ys (turn ks cs x s)
+
+  turns-kinds : (ls : List Level) (s : State) → length (s .kinds) ≡ process leader s .execution .calls → length (afterTurns ks cs ls s .kinds) ≡ process leader (afterTurns ks cs ls s) .execution .calls
+  unfolding afterTurns
+  turns-kinds [] s h = h
+  turns-kinds (l ∷ ls) s h = turns-kinds ls (turn ks cs l s) (turn-kinds ks cs l s h)
+
+pub idles-on-for : IdlesOn
+idles-on-for = idles-for
+
+pub always-idles : AlwaysIdles
+unfolding initial fresh at
+always-idles j lent =
+    let f = run-of j lent in
+    let end = runJob j lent .counts .positions in
+    let first = initial (j .keys) (j .messages) in
+    record {
+      ending = f .ending;
+      outcome = f .outcome ∙ ap (λ (n : ℕ). ended (f .ending) (stateAfter j n)) (used-all j lent);
+      idles = λ l follows n most h.
+          let e : end ≡ n + (end - n) = omega arith in
+          let split = ap (λ (m : ℕ). take m (j .turns)) e ∙ take-add n (end - n) (j .turns) in
+          let there = ap (λ (ls : List Level). afterTurns (j .keys) (j .commands) ls first) split ∙ turns-append (j .keys) (j .commands) (take n (j .turns)) (take (end - n) (drop n (j .turns))) first in
+          ap (λ (s : State). process l s .execution) there ∙ idles-for (j .keys) (j .commands) l follows (stateAfter j n) h (take (end - n) (drop n (j .turns)));
+      kinds = λ n. turns-kinds (j .keys) (j .commands) (take n (j .turns)) first refl;
+    }
+
+-- ---- Against any other rule
+
+-- the high execution is the only one that goes by a rule, and its columns are the secret ones
+rules-agree : (ks : List Key) (cs : List Command) (f g : Rule) → RulesAgree High low≢high ks cs f g
+rules-agree ks cs f g l r own s t h = absurd (own (follower l r))
+
+pub only-secret-columns : OnlySecretColumns
+unfolding runJobBy
+only-secret-columns f j m =
+    indistinguishable High (j .keys) m _ _ low≢high
+    (run-alike High low≢high (j .keys) (j .commands) following f (rules-agree (j .keys) (j .commands) following f) (length m) (j .turns) _ _
+    (initial-alike High low≢high (j .keys) (j .messages) (j .messages) (rest-alike High (j .keys) (j .messages) (j .messages) refl (λ n k isKey own. refl))))
+    (counts-of j (length m) .sent)
+
+pub only-secret-columns-of-sheets : OnlySecretColumnsOfSheets
+unfolding runSheet
+only-secret-columns-of-sheets f s j m e = rw e (only-secret-columns f j m)
+
+-- ---- The maker's sheet
+
+pub makers-sheet : MakersSheet
+unfolding opened afterTurns waitsBefore followingBefore sheetWith
+makers-sheet =
+    record {
+      accepts = refl;
+      before = refl;
+      now = refl;
+      counts = refl;
+      other =
+          record {
+            call = λ e. omega (arith, ap callsBy e);
+            made = omega arith;
+            other = λ e. let z : _≡_ {A = ℕ} 0 1 = ap (λ (k : Call). cond (waits Receives k) 1 0) e in omega arith;
+          };
+      place = refl;
+    }
+
+pub texts : AllHold examples
+unfolding opened sheetWith examples
+texts = (refl, (refl, (refl, tt)))
