@@ -1,9 +1,12 @@
-//! Hand-written sheets, each with the text that document 01 demands. Nothing here was computed by
-//! the model: the expected texts were worked out from the document.
+//! Hand-written sheets, each with the text that document 01 demands, or document 02 where it says
+//! otherwise. Nothing here was computed by the model: the expected texts were worked out from the
+//! documents.
 
+pub mod calls;
 pub mod log;
 
 use crate::model::{end_line, LENT};
+use calls::{CALLS, LONG_CALLS};
 
 /// A sheet, the bytes lent to it, and what `runsheet` would print with that many bytes lent.
 #[derive(Debug, Clone, PartialEq, Eq)]
@@ -16,7 +19,7 @@ pub struct Corner {
 /// Every corner of the tables below, in their order.
 pub fn corners() -> Vec<Corner> {
     let mut corners = Vec::new();
-    for &(lent, sheet, printed) in EXAMPLES.iter().chain(RUNS) {
+    for &(lent, sheet, printed) in EXAMPLES.iter().chain(RUNS).chain(CALLS) {
         corners.push(corner(lent, sheet.as_bytes(), printed.as_bytes()));
     }
     for &(v, word, w, result) in ARITHMETIC {
@@ -31,7 +34,7 @@ pub fn corners() -> Vec<Corner> {
         let sheet = format!("sheet=1\nkeys=2\n{body}");
         corners.push(refused(number, line, sheet.as_bytes()));
     }
-    for &(pieces, printed) in LONG {
+    for &(pieces, printed) in LONG.iter().chain(LONG_CALLS) {
         let sheet: Vec<u8> = pieces
             .iter()
             .flat_map(|(text, count)| text.repeat(*count))
@@ -63,7 +66,7 @@ fn arithmetic_sheet(v: i32, word: &str, w: i32) -> String {
 }
 
 /// Bytes lent, sheet, text.
-type Run = (usize, &'static str, &'static str);
+pub type Run = (usize, &'static str, &'static str);
 
 /// The examples of document 01 that are whole sheets. The rest are in the tables after it: P9 and
 /// P10 in [`ARITHMETIC`], P11 in [`REFUSED`], the 64 and 65 commands in [`LONG`].
@@ -274,26 +277,6 @@ pub const RUNS: &[Run] = &[
         22,
         "sheet=1\nkeys=1\nsecret=0:7\ndo=receive\ndo=drop 0\ndo=send\nmsg=0:3\nturns=LLL\n",
         "sent=0002 +0000000003\nend=0 0 3 3 22 1\n",
-    ),
-    // "Its j-th call moves on only if the low execution has made at least j calls".
-    (
-        22,
-        "sheet=1\nkeys=1\nsecret=0:0\ndo=receive\ndo=receive\ndo=set 0 4\ndo=put 0 0\ndo=send\n\
-         msg=0:1\nmsg=0:2\nturns=LHHHHLHHHLLL\n",
-        "sent=0011 +0000000004\nend=0 0 12 5 22 2\n",
-    ),
-    (
-        22,
-        "sheet=1\nkeys=1\nsecret=0:0\ndo=receive\ndo=receive\ndo=set 0 4\ndo=put 0 0\ndo=send\n\
-         msg=0:1\nmsg=0:2\nturns=LHHHHLHLLL\n",
-        "sent=0009 +0000000002\nend=0 0 10 5 22 2\n",
-    ),
-    // "of either kind": the second call is a low `send` and a high `receive`.
-    (
-        44,
-        "sheet=1\nkeys=1\nsecret=0:0\ndo=receive\ndo=read 0 0\ndo=ifzero 0 5\ndo=receive\n\
-         do=jump 6\ndo=send\ndo=set 1 8\ndo=put 0 1\ndo=send\nmsg=0:9\nturns=LHHHHLLLHHHHLLL\n",
-        "sent=0007 +0000000009\nsent=0014 +0000000008\nend=0 0 15 7 44 1\n",
     ),
     // A `receive` with no line left is a call.
     (

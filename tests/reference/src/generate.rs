@@ -272,7 +272,7 @@ fn message(rng: &mut Rng, keys: usize) -> Vec<Option<i32>> {
 /// Letters in one of several mixes.
 fn turns(rng: &mut Rng, count: usize) -> Vec<Level> {
     let letter = |low: bool| if low { Level::Low } else { Level::High };
-    match rng.below(20) {
+    match rng.below(22) {
         0..=4 => (0..count).map(|place| letter(place % 2 == 0)).collect(),
         5 | 6 => (0..count).map(|place| letter(place % 2 == 1)).collect(),
         7..=10 => (0..count).map(|_| letter(rng.chance(1, 2))).collect(),
@@ -280,8 +280,17 @@ fn turns(rng: &mut Rng, count: usize) -> Vec<Level> {
         13..=15 => (0..count).map(|_| letter(rng.chance(1, 4))).collect(),
         16 => vec![Level::Low; count],
         17 if rng.chance(1, 2) => vec![Level::High; count],
+        18 | 19 => late(rng, count),
         _ => bursts(rng, count),
     }
+}
+
+/// Both in turn, but the high execution begins late, and so stays some calls behind.
+fn late(rng: &mut Rng, count: usize) -> Vec<Level> {
+    let first = rng.between(2, 24);
+    let high = |place| place >= first && place % 2 == 1;
+    let letter = |place| if high(place) { Level::High } else { Level::Low };
+    (0..count).map(letter).collect()
 }
 
 /// Several turns of one execution, then several of the other.

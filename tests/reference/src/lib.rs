@@ -9,8 +9,8 @@
 //! - [`log`] makes `msg` lines out of the export of a belt log.
 //! - [`generate`] makes random sheets from a seed: accepted, damaged, noisy, and pairs that differ
 //!   only in their secrets. [`generate::log`] makes random exports.
-//! - [`corners`] lists hand-written sheets with the text that document 01 demands for each,
-//!   [`corners::log`] exports with their lines.
+//! - [`corners`] lists hand-written sheets with the text that the documents demand for each, those
+//!   of Note 2 in [`corners::calls`]; [`corners::log`] has exports with their lines.
 
 pub mod corners;
 pub mod generate;

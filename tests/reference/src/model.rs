@@ -1,6 +1,7 @@
-//! The reference model of document 01, in the order of its text.
+//! The reference model of document 01, in the order of its text, with the rule of document 02's
+//! Note 2 for the calls of the high execution.
 //!
-//! Words between quotation marks are the document's own. A comment that begins with "Reading:"
+//! Words between quotation marks are the documents' own. A comment that begins with "Reading:"
 //! names the reading taken where the text leaves a choice, or seems to leave one.
 
 /// "Values are ... from -2147483648 to 2147483647."
@@ -537,19 +538,16 @@ fn quotient(v: i32, w: i32) -> i32 {
 // Two executions and one message
 // ---------------------------------------------------------------------------------------------
 
-/// "Each execution has its place and eight variables, all 0 at first." Beside them, the calls that
-/// it has made.
+/// "Each execution has its place and eight variables, all 0 at first."
 #[derive(Clone, Copy)]
 struct Execution {
     place: usize,
     variables: [i32; VARIABLES],
-    calls: u32,
 }
 
 const FIRST: Execution = Execution {
     place: 0,
     variables: [0; VARIABLES],
-    calls: 0,
 };
 
 /// "Both share one message. At each key it has a low field and a high field."
@@ -559,7 +557,7 @@ struct Message {
 }
 
 /// One step of one execution. `fields` are its own: "The low execution reads and changes only low
-/// fields, the high one only high fields." Of a call, only the counting and the moving on is here.
+/// fields, the high one only high fields." Of a call, only the moving on is here.
 fn step(
     mut execution: Execution,
     command: Command,
@@ -584,7 +582,7 @@ fn step(
         Command::IfZero(v, t) if variables[v] == 0 => next = t,
         Command::IfNeg(..) | Command::IfZero(..) => {}
         Command::Jump(t) => next = t,
-        Command::Receive | Command::Send => execution.calls += 1,
+        Command::Receive | Command::Send => {}
         // "go to the end, the place after the last command".
         Command::Stop => next = end,
     }
@@ -592,27 +590,54 @@ fn step(
     execution
 }
 
+/// When a call of the high execution moves on.
+#[derive(Debug, Clone, Copy, PartialEq, Eq)]
+pub enum CallRule {
+    /// Note 2: "only if the j-th low call has been made and was of the same kind". The rule of every
+    /// run.
+    SameKind,
+    /// Document 01, before Note 2: "only if the low execution has made at least j calls, of either
+    /// kind." For tests that ask what Note 2 has changed.
+    EitherKind,
+}
+
+/// What happened in a run that no answer says. For tests that ask what random sheets reach.
+#[derive(Debug, Clone, Copy, PartialEq, Eq, Default)]
+pub struct Unreported {
+    /// H turns that passed idle because the low call of that number was of the other kind.
+    pub idle_by_kind: usize,
+}
+
 /// All that a run keeps.
 struct Run<'a> {
     job: &'a Job,
+    rule: CallRule,
     output: &'a mut [u8],
     low: Execution,
     high: Execution,
+    /// The calls that the low execution has made, in their order.
+    low_calls: Vec<Command>,
+    /// How many calls the high execution has moved on from.
+    high_calls: usize,
     message: Message,
     positions: usize,
     low_steps: usize,
     written: usize,
     taken: usize,
+    unreported: Unreported,
 }
 
 impl<'a> Run<'a> {
     /// "All fields are absent at first."
-    fn first(job: &'a Job, output: &'a mut [u8]) -> Run<'a> {
+    fn first(job: &'a Job, rule: CallRule, output: &'a mut [u8]) -> Run<'a> {
         Run {
             job,
+            rule,
             output,
             low: FIRST,
             high: FIRST,
+            low_calls: Vec::new(),
+            high_calls: 0,
             message: Message {
                 low: vec![None; job.keys],
                 high: vec![None; job.keys],
@@ -621,6 +646,7 @@ impl<'a> Run<'a> {
             low_steps: 0,
             written: 0,
             taken: 0,
+            unreported: Unreported::default(),
         }
     }
 
@@ -635,6 +661,9 @@ impl<'a> Run<'a> {
             Command::Receive => self.receive(),
             Command::Send => self.send(),
             _ => {}
+        }
+        if command.is_call() {
+            self.low_calls.push(command);
         }
         let end = self.job.commands.len();
         self.low = step(self.low, command, &mut self.message.low, end);
@@ -659,7 +688,7 @@ impl<'a> Run<'a> {
             self.message.high[key] = high;
         }
         // "Messages taken counts lines, so a `receive` with none left adds nothing." Reading: it is
-        // a call all the same, and the high execution may follow it.
+        // a call all the same, of this kind, and a high `receive` may follow it.
         if line.is_some() {
             self.taken += 1;
         }
@@ -679,16 +708,34 @@ impl<'a> Run<'a> {
         let Some(command) = self.command(&self.high) else {
             return;
         };
-        // "Its j-th call (j from 1) moves on only if the low execution has made at least j calls,
-        // of either kind." Reading: a call that waits is not made yet, so j is one more than the
-        // calls it has moved on from.
-        let j = self.high.calls + 1;
-        if command.is_call() && self.low.calls < j {
-            return;
+        if command.is_call() {
+            if !self.moves_on(command) {
+                return;
+            }
+            self.high_calls += 1;
         }
         // "A `receive` or `send` of its own has no effect but to move it on."
         let end = self.job.commands.len();
         self.high = step(self.high, command, &mut self.message.high, end);
+    }
+
+    /// Note 2: "the j-th high call moves on only if the j-th low call has been made and was of the
+    /// same kind."
+    fn moves_on(&mut self, call: Command) -> bool {
+        // "(j from 1)". Reading: a call that waits is not made yet, so j is one more than the calls
+        // it has moved on from. The list of the low calls counts from 0.
+        let j = self.high_calls + 1;
+        let Some(&low_call) = self.low_calls.get(j - 1) else {
+            return false;
+        };
+        // "If the kinds differ, the high execution idles for the rest of the run." Reading: this
+        // follows, since a turn that passes idle leaves `call` and j as they are, and no later turn
+        // changes the j-th low call.
+        if low_call != call && self.rule == CallRule::SameKind {
+            self.unreported.idle_by_kind += 1;
+            return false;
+        }
+        true
     }
 
     fn answer(&self, ending: u32) -> [u32; 6] {
@@ -748,22 +795,34 @@ pub fn in_secret_column(job: &Job, place: usize, written: usize) -> bool {
 /// Runs a job to its ending. Six numbers: "ending or refusal number, line, positions used, low
 /// steps, bytes written, messages taken". The job must be one that [`read`] could return.
 pub fn run(job: &Job, output: &mut [u8]) -> [u32; 6] {
-    let mut run = Run::first(job, output);
+    run_by(CallRule::SameKind, job, output).0
+}
+
+/// Runs a job to its ending by one of the rules for calls, and says what its answer does not.
+pub fn run_by(rule: CallRule, job: &Job, output: &mut [u8]) -> ([u32; 6], Unreported) {
+    let mut run = Run::first(job, rule, output);
+    let ending = take_turns(&mut run);
+    (run.answer(ending), run.unreported)
+}
+
+/// Takes turn after turn, and gives the number of the ending.
+fn take_turns(run: &mut Run) -> u32 {
+    let job = run.job;
     // "Before each turn ... They are tested in that order."
     loop {
         // 0: "the low execution has stopped".
         let Some(command) = run.command(&run.low) else {
-            return run.answer(0);
+            return 0;
         };
         // 31: "it has not, and all letters are used".
         let Some(&letter) = job.turns.get(run.positions) else {
-            return run.answer(31);
+            return 31;
         };
         // 32: "it has not, a letter L is next, its command is `send`, and fewer bytes are left than
         // a line needs; this turn is not counted".
         let left = run.output.len() - run.written;
         if letter == Level::Low && command == Command::Send && left < job.line_length() {
-            return run.answer(32);
+            return 32;
         }
         match letter {
             Level::Low => run.low_turn(command),

@@ -1,5 +1,6 @@
 //! Document 01 against the model: its corners, its memories, and what the generators reach.
 
+use reference::corners::calls::{CALLS, LONG_CALLS};
 use reference::corners::{
     corners, Corner, ARITHMETIC, EXAMPLES, LONG, REFUSED, REFUSED_BODIES, RUNS,
 };
@@ -10,6 +11,8 @@ use reference::model::{Class, CLASSES, LENT};
 use reference::{
     c_entry, in_secret_column, printed, read, run_sheet, Command, Job, Level, Refusal,
 };
+use std::fs;
+use std::path::Path;
 
 /// An open key, a secret one, and one line sent.
 const SHEET: &[u8] = b"sheet=1\nkeys=2\nsecret=1:-4\ndo=receive\ndo=set 7 12\ndo=put 0 7\n\
@@ -58,10 +61,28 @@ fn a_sheet_is_read_as_written() {
 #[test]
 fn every_corner_prints_what_the_document_says() {
     let corners = corners();
-    let count = EXAMPLES.len() + RUNS.len() + ARITHMETIC.len();
+    let count = EXAMPLES.len() + RUNS.len() + CALLS.len() + ARITHMETIC.len();
     let refused = REFUSED.len() + REFUSED_BODIES.len();
-    assert_eq!(corners.len(), count + refused + LONG.len());
+    let long = LONG.len() + LONG_CALLS.len();
+    assert_eq!(corners.len(), count + refused + long);
     corners.iter().for_each(check);
+}
+
+/// The sheets of `examples/`, and what `runsheet` is to print for each.
+#[test]
+fn the_examples_print_what_stands_beside_them() {
+    let folder = Path::new(env!("CARGO_MANIFEST_DIR")).join("../../examples");
+    let texts = fs::read_dir(folder.join("runsheet")).expect("the folder of the texts is there");
+    let mut count = 0;
+    for text in texts {
+        let text = text.expect("the folder can be read").path();
+        let name = text.file_name().expect("a text has a name");
+        let sheet = fs::read(folder.join(name)).expect("the sheet can be read");
+        let wanted = fs::read(&text).expect("the text can be read");
+        assert_eq!(printed(&sheet, LENT), wanted, "{name:?}");
+        count += 1;
+    }
+    assert!(count > 80, "{count}");
 }
 
 // The lent memories.

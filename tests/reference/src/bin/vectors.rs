@@ -3,18 +3,26 @@
 //! `vectors sheets` prints the sheets, a byte 0 after each; `vectors text` prints what
 //! `runsheet` would print for each of them, with 32,768 bytes lent and then with 100.
 
-use reference::generate::{accepted, damaged, noise, Rng, Shape};
-use reference::{corners, printed};
+use reference::generate::{accepted, accepted_job, damaged, noise, sheet_of, Rng, Shape};
+use reference::model::{run_by, CallRule};
+use reference::{corners, printed, Job};
 use std::io::Write;
 
 const SEED: u64 = 20_261_115;
 const ROOM: usize = 60_000;
 const LENT: [usize; 2] = [32_768, 100];
 
-/// Document 01's examples and corners, then generated sheets of every kind.
+/// The documents' examples and corners, then generated sheets: at calls of two kinds, and of every
+/// kind.
 fn sheets() -> Vec<Vec<u8>> {
     let mut rng = Rng::new(SEED);
     let mut all: Vec<Vec<u8>> = corners::corners().into_iter().map(|c| c.sheet).collect();
+    for i in 0..16 {
+        all.push(match i % 6 {
+            0 => at_calls_of_two_kinds(&mut rng, Shape::Medium),
+            _ => at_calls_of_two_kinds(&mut rng, Shape::Small),
+        });
+    }
     for i in 0..240 {
         all.push(match i % 6 {
             0 | 1 => accepted(&mut rng, Shape::Small),
@@ -32,6 +40,22 @@ fn sheets() -> Vec<Vec<u8>> {
         fits
     });
     all
+}
+
+/// An accepted sheet that sends something else where the kinds of calls are not compared.
+fn at_calls_of_two_kinds(rng: &mut Rng, shape: Shape) -> Vec<u8> {
+    loop {
+        let job = accepted_job(rng, shape);
+        if sent(&job, CallRule::SameKind) != sent(&job, CallRule::EitherKind) {
+            return sheet_of(&job);
+        }
+    }
+}
+
+fn sent(job: &Job, rule: CallRule) -> Vec<u8> {
+    let mut output = vec![0; LENT[0]];
+    run_by(rule, job, &mut output);
+    output
 }
 
 fn main() -> std::io::Result<()> {

@@ -25,6 +25,10 @@ const NEAR_THE_ENDS: [(i32, i32); 12] = [
 /// Exactly `count` commands of every kind, with loops and jumps; most of them come to an end.
 pub fn mixed(rng: &mut Rng, secrets: &[Option<i32>], count: usize) -> Vec<Command> {
     let mut writer = Writer::new(rng, secrets);
+    // At the start, where both executions come to it, and where a short program has room for it.
+    if writer.rng.chance(1, 8) {
+        writer.calls_of_two_kinds();
+    }
     while writer.commands.len() < count {
         writer.passage();
     }
@@ -61,8 +65,10 @@ pub fn endless(rng: &mut Rng, secrets: &[Option<i32>]) -> Vec<Command> {
             _ => writer.fork(),
         }
     }
-    if writer.rng.chance(7, 8) {
-        writer.add(Command::Send);
+    match writer.rng.below(8) {
+        0 => {}
+        1 | 2 => writer.one_call_or_the_other(),
+        _ => writer.add(Command::Send),
     }
     writer.add(Command::Jump(start));
     writer.finish()
@@ -136,7 +142,7 @@ impl<'a> Writer<'a> {
     }
 
     fn passage(&mut self) {
-        match self.rng.below(20) {
+        match self.rng.below(23) {
             0..=4 => self.carry(),
             5..=7 => {
                 self.calculate();
@@ -152,7 +158,8 @@ impl<'a> Writer<'a> {
             14 => self.add(Command::Send),
             15 | 16 => self.plain(),
             17 => self.leave(),
-            _ => self.jump(),
+            18 | 19 => self.jump(),
+            _ => self.calls_of_two_kinds(),
         }
     }
 
@@ -212,14 +219,19 @@ impl<'a> Writer<'a> {
         self.add(Command::Put(k, v));
     }
 
-    /// A test of an entry that may pass over some commands.
-    fn fork(&mut self) {
-        let (v, k) = (self.variable(), self.secret_key());
+    /// A test of an entry. Gives the place of its branch, which is to be aimed.
+    fn test(&mut self, v: usize, k: usize) -> usize {
         let test = self.rng.pick(&[Command::Read, Command::Has]);
         let branch = self.rng.pick(&[Command::IfNeg, Command::IfZero]);
         self.add(test(v, k));
-        let place = self.here();
         self.add(branch(v, 0));
+        self.here() - 1
+    }
+
+    /// A test of an entry that may pass over some commands.
+    fn fork(&mut self) {
+        let (v, k) = (self.variable(), self.secret_key());
+        let place = self.test(v, k);
         for _ in 0..self.rng.between(1, 3) {
             self.plain();
         }
@@ -234,6 +246,44 @@ impl<'a> Writer<'a> {
         self.add(Command::Read(v, k));
         self.add(branch(v, self.here() + 2));
         self.add(call);
+    }
+
+    /// A `receive` on one side of a test and a `send` on the other.
+    fn one_call_or_the_other(&mut self) {
+        let (v, k) = (self.variable(), self.secret_key());
+        let (call, other) = self.two_calls();
+        let branch = self.test(v, k);
+        self.add(call);
+        let past = self.here();
+        self.add(Command::Jump(0));
+        self.aim(branch, self.here());
+        self.add(other);
+        self.aim(past, self.here());
+    }
+
+    fn two_calls(&mut self) -> (Command, Command) {
+        let calls = (Command::Receive, Command::Send);
+        self.rng.pick(&[calls, (calls.1, calls.0)])
+    }
+
+    /// The two executions may come to calls of different kinds, and what stands behind these is
+    /// seen if the high one moves on.
+    fn calls_of_two_kinds(&mut self) {
+        self.add(Command::Receive);
+        if self.rng.chance(1, 2) {
+            self.one_call_or_the_other();
+        } else {
+            // One of them may pass over the first call, so that the other call is its first.
+            let (v, k) = (self.variable(), self.secret_key());
+            let (call, other) = self.two_calls();
+            let branch = self.test(v, k);
+            self.add(call);
+            self.aim(branch, self.here());
+            self.add(other);
+        }
+        let (v, k) = (self.variable(), self.secret_key());
+        self.add(Command::Put(k, v));
+        self.add(Command::Send);
     }
 
     /// A few rounds, counted down in one variable by another.
