@@ -2,7 +2,7 @@
 
 use crate::compare::{Difference, Entry, Left};
 use crate::part::{Corner, Part};
-use crate::tally::{Tally, Wanted};
+use crate::tally::{Tally, Telling, Wanted};
 use pavebox::{CsvAnswer, CSV_ANSWER_BYTES, WRITTEN};
 use reference::generate::log::{accepted, damaged, memory_length, noise};
 use reference::generate::Rng;
@@ -21,13 +21,18 @@ pub static LOGS: Part = Part {
     corners,
     text: lines_and_answer,
     random,
-    // Every number of Note 1. About a third of the exports give lines; those that are refused, or
-    // have no message, could not tell an entry that never writes.
+    // Every number of Note 1.
     wanted: Wanted {
         numbers: &[0, 8, 41, 42, 43, 10],
-        telling: "exports give lines",
-        one_of: 5,
+        tellings: &[&GIVE_LINES],
     },
+};
+
+/// About a third do; exports that are refused, or have no message, could not tell an entry that
+/// never writes.
+static GIVE_LINES: Telling = Telling {
+    words: "exports give lines",
+    one_of: 5,
 };
 
 fn corners() -> Vec<Corner> {
@@ -57,7 +62,7 @@ fn random(rng: &mut Rng, _place: u64, tally: &mut Tally) -> Result<(), Differenc
     let left = LOGS.compare_once(rng, &export)?;
     let gives_lines = |[number, _, written]: [u32; 3]| number == WRITTEN && written > 0;
     tally.count_random(left.returned);
-    tally.count_telling(numbers(&left).is_some_and(gives_lines));
+    tally.count_telling(&GIVE_LINES, numbers(&left).is_some_and(gives_lines));
     Ok(())
 }
 

@@ -4,10 +4,11 @@
 use crate::compare::{Difference, Entry, Left};
 use crate::pairs::compare_pair;
 use crate::part::{Corner, Part};
-use crate::tally::{Tally, Wanted};
+use crate::tally::{Tally, Telling, Wanted};
 use pavebox::{Answer, ANSWER_BYTES};
 use reference::generate::{accepted, damaged, memory_length, noise, secret_pair, Rng, Shape};
-use reference::model::end_line;
+use reference::model::{end_line, run_by, CallRule};
+use reference::read;
 
 pub static SHEETS: Part = Part {
     name: "sheets",
@@ -22,13 +23,31 @@ pub static SHEETS: Part = Part {
     corners,
     text: printed,
     random,
-    // Every first number of document 01. About a third of the pairs have different secret columns;
-    // pairs whose columns are equal could not tell a monitor that mixes up the two executions.
+    // Every first number of document 01.
     wanted: Wanted {
         numbers: &[0, 31, 32, 1, 2, 3, 4, 5, 6, 7, 8, 9, 10],
-        telling: "pairs have different secret columns",
-        one_of: 10,
+        tellings: &[&PAIRS_DIFFER, &IDLE_BY_KIND, &KIND_DECIDES],
     },
+};
+
+/// About a third do; pairs whose columns are equal could not tell a monitor that mixes up the two
+/// executions.
+static PAIRS_DIFFER: Telling = Telling {
+    words: "pairs have different secret columns",
+    one_of: 10,
+};
+
+/// About one in 15 has; without such a turn a sheet could not tell a monitor that compares the kinds
+/// of calls in a wrong way.
+static IDLE_BY_KIND: Telling = Telling {
+    words: "accepted sheets have an H turn that is idle at a call of the other kind",
+    one_of: 100,
+};
+
+/// About one in 30 does; the other sheets could not tell a monitor that does not compare the kinds.
+static KIND_DECIDES: Telling = Telling {
+    words: "accepted sheets would send something else if the kinds of calls did not count",
+    one_of: 200,
 };
 
 /// Every so many cases there is a pair.
@@ -61,8 +80,23 @@ fn random(rng: &mut Rng, place: u64, tally: &mut Tally) -> Result<(), Difference
         return random_pair(rng, tally);
     }
     let sheet = random_sheet(rng);
-    tally.count_random(SHEETS.compare_once(rng, &sheet)?.returned);
+    let left = SHEETS.compare_once(rng, &sheet)?;
+    tally.count_random(left.returned);
+    count_kinds(&sheet, &left, tally);
     Ok(())
+}
+
+/// What the kinds of calls have decided in a run. It is over: `left` is what it left.
+fn count_kinds(sheet: &[u8], left: &Left, tally: &mut Tally) {
+    let (Ok(job), Some(numbers)) = (read(sheet), numbers(left)) else {
+        return;
+    };
+    let mut output = vec![0; left.output().len()];
+    let (_, unreported) = run_by(CallRule::SameKind, &job, &mut output);
+    tally.count_telling(&IDLE_BY_KIND, unreported.idle_by_kind > 0);
+    run_by(CallRule::EitherKind, &job, &mut output);
+    let written = numbers[4] as usize;
+    tally.count_telling(&KIND_DECIDES, left.lines(numbers[4]) != &output[..written]);
 }
 
 fn random_pair(rng: &mut Rng, tally: &mut Tally) -> Result<(), Difference> {
@@ -72,7 +106,7 @@ fn random_pair(rng: &mut Rng, tally: &mut Tally) -> Result<(), Difference> {
     let second = first.with_input(&second);
     let pair = compare_pair(&first, &second)?;
     tally.count_random(pair.returned);
-    tally.count_telling(pair.differs);
+    tally.count_telling(&PAIRS_DIFFER, pair.differs);
     Ok(())
 }
 
