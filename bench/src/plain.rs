@@ -1,5 +1,6 @@
 //! The confidential run as a straightforward Rust program: safe, idiomatic, not tuned. It accepts
-//! the sheets that document 01 accepts, but does not say why it refuses the others.
+//! the sheets that document 01 accepts, but does not say why it refuses the others. Calls of the high
+//! execution move on as Note 2 of document 02 says.
 
 const MOST_BYTES: usize = 16_384;
 const MOST_KEYS: usize = 8;
@@ -228,13 +229,19 @@ pub fn small(text: &[u8], lowest: usize, highest: usize) -> Option<usize> {
 
 // Running.
 
+/// The kind of a call.
+#[derive(Clone, Copy, PartialEq)]
+enum Call {
+    Receive,
+    Send,
+}
+
 /// One execution and its own fields of the message.
 #[derive(Default)]
 struct Execution {
     place: usize,
     variables: [i32; VARIABLES],
     fields: Entries,
-    calls: u32,
 }
 
 impl Execution {
@@ -262,7 +269,7 @@ impl Execution {
                 }
             }
             Command::Jump(t) => next = t,
-            Command::Receive | Command::Send => self.calls += 1,
+            Command::Receive | Command::Send => {}
             Command::Stop => next = end,
         }
         self.place = next;
@@ -281,6 +288,7 @@ fn run_job(job: &Job, output: &mut [u8]) -> [u32; 6] {
     let end = job.commands.len();
     let width = 10 + 12 * job.keys;
     let (mut low, mut high) = (Execution::default(), Execution::default());
+    let (mut low_calls, mut high_calls) = (Vec::with_capacity(MOST_TURNS), 0);
     let (mut positions, mut low_steps, mut written, mut taken) = (0, 0, 0, 0);
     let ending = loop {
         let Some(&command) = job.commands.get(low.place) else {
@@ -294,6 +302,7 @@ fn run_job(job: &Job, output: &mut [u8]) -> [u32; 6] {
                 Command::Receive => {
                     receive(job, taken, &mut low.fields, &mut high.fields);
                     taken = job.messages.len().min(taken + 1);
+                    low_calls.push(Call::Receive);
                 }
                 Command::Send => {
                     let Some(line) = output.get_mut(written..written + width) else {
@@ -301,14 +310,20 @@ fn run_job(job: &Job, output: &mut [u8]) -> [u32; 6] {
                     };
                     write_line(line, job, positions, &low.fields, &high.fields);
                     written += width;
+                    low_calls.push(Call::Send);
                 }
                 _ => {}
             }
             low.step(command, end);
             low_steps += 1;
         } else if let Some(&command) = job.commands.get(high.place) {
-            let waits = matches!(command, Command::Receive | Command::Send);
-            if !waits || high.calls < low.calls {
+            let call = match command {
+                Command::Receive => Some(Call::Receive),
+                Command::Send => Some(Call::Send),
+                _ => None,
+            };
+            if call.is_none() || low_calls.get(high_calls).copied() == call {
+                high_calls += usize::from(call.is_some());
                 high.step(command, end);
             }
         }
