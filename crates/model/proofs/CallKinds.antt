@@ -2,18 +2,18 @@
 use Prim.Native.Nat.{ℕ, _+_, _-_, _<_}
 use mathlib.Core.Path.{_≡_, refl, sym, _∙_, ap, subst}
 use mathlib.Core.Logic.{_≢_}
-use mathlib.Core.Bool.{Bool, true, false, cond}
-use mathlib.Core.List.{List, [], _∷_, _++_, append-nil}
+use mathlib.Core.Bool.{Bool, true, false, cond, true≢false}
+use mathlib.Core.List.{List, [], _∷_, _++_, append-nil, append-assoc}
 use lib.{ListN.length, ListN.getD, ListN.take, ListN.drop, ListN.length-append, ListN.List·getD-append, ListN.List·getD-eq-default, Seq.take-add}
 use native.Mathlib.{Omega.arith, Decide.decLt}
 use Rattle.model.specs.{Command.blank, Step.callOf, Step.callsBy, State.Process, State.State, State.Role, State.leads, State.follows, State.role, State.leader}
 use Rattle.model.specs.{State.step, State.command, State.stopped, State.at, State.process, Verdict.kindAt, Verdict.waits, Verdict.idles, Run.share, Run.lead, Run.waitsAt, Run.unlessIdle}
-use Rattle.model.specs.{Run.followed, Run.following, Run.moved, Run.turnBy, Run.turn, Run.ended, Run.initial, Run.fresh, Run.Rule, Run.runJobBy, Run.runJob, Answer.runSheet, Examples.AllHold}
+use Rattle.model.specs.{Run.followed, Run.following, Run.moved, Run.turnBy, Run.turn, Run.afterTurns, Run.stateAfter, Run.ended, Run.initial, Run.fresh, Run.Rule, Run.runJobBy, Run.runJob, Answer.runSheet, Examples.AllHold}
 use Rattle.model.specs.Data.{Key, Set, Command, Call, Neither, Receives, Sends, Level, High, Execution}
-use Rattle.model.specs.CallKinds.{MovesOn, AlwaysMovesOn, OtherKind, afterTurns, stateAfter, IdlesOn, AlwaysIdles, waitsBefore, followingBefore}
+use Rattle.model.specs.CallKinds.{MovesOn, AlwaysMovesOn, OtherKind, lowCalls, AlwaysKept, IdlesOn, AlwaysIdles, waitsBefore, followingBefore}
 use Rattle.model.specs.CallKinds.{OnlySecretColumns, OnlySecretColumnsOfSheets, sheetWith, MakersSheet, examples}
-use Rattle.model.proofs.{Levels.Changed, Levels.same, Levels.other, Levels.changed, Levels.put-beside, Turn.callAt, Turn.kindsBy, Turn.share-execution, Turn.share-kinds}
-use Rattle.model.proofs.{Levels.low≢high, Levels.follower, Turn.turn-kinds, Counted.run-of, Counted.used-all, Counted.counts-of, Examples.opened}
+use Rattle.model.proofs.{Levels.Changed, Levels.same, Levels.other, Levels.changed, Levels.put-beside, Turn.callAt, Turn.callsAt, Turn.newCalls, Turn.share-execution}
+use Rattle.model.proofs.{Levels.low≢high, Levels.follower, Turn.turn-kinds, Turn.turn-count, Counted.run-of, Counted.used-all, Counted.counts-of, Examples.opened}
 use Rattle.model.proofs.{Lockstep.RulesAgree, Lockstep.run-alike, Lockstep.initial-alike, Secrecy.rest-alike, Secrecy.indistinguishable}
 
 -- ---- The rule
@@ -38,13 +38,13 @@ alike Sends = refl
 
 waits-or-not : (b : Bool) → (b ≢ true → ⊥) → b ≡ true
 waits-or-not true n = refl
-waits-or-not false n = absurd (n (λ e. let z : _≡_ {A = ℕ} 1 0 = ap (λ (x : Bool). cond x 0 1) e in omega arith))
+waits-or-not false n = absurd (n (λ e. true≢false (sym e)))
 
 -- one that waits idles, wherever it is
-idles-on : (b : Bool) → idles b true ≡ true
+waits-idle : (b : Bool) → idles b true ≡ true
 unfolding idles
-idles-on true = refl
-idles-on false = refl
+waits-idle true = refl
+waits-idle false = refl
 
 module _ (cs : List Command) (kinds : List Call) (p : Process) where
   abbrev own : Call
@@ -55,7 +55,7 @@ module _ (cs : List Command) (kinds : List Call) (p : Process) where
 
   waiting : waits own low ≡ true → followed cs kinds p ≡ p
   unfolding followed waitsAt
-  waiting e = ap (λ (w : Bool). unlessIdle cs w p) e ∙ ap (λ (b : Bool). cond b p (step (length cs) (command cs p) p)) (idles-on (stopped cs p))
+  waiting e = ap (λ (w : Bool). unlessIdle cs w p) e ∙ ap (λ (b : Bool). cond b p (step (length cs) (command cs p) p)) (waits-idle (stopped cs p))
 
   made-if : low ≢ Neither → p .execution .calls < length kinds
   made-if n = go (decLt (p .execution .calls) (length kinds))
@@ -69,7 +69,7 @@ module _ (cs : List Command) (kinds : List Call) (p : Process) where
   moves-on =
       record {
         only = λ call moves. let a = agree own low call (λ e. moves (waiting e)) in record { made = made-if (a .0); kind = a .1 };
-        does = λ going k. rw (going, k .kind, alike own);
+        moves = λ going k. rw (going, k .kind, alike own);
       }
 
   -- a call of the other kind waits
@@ -92,61 +92,76 @@ module _ (cs : List Command) (kinds : List Call) (p : Process) where
 pub always-moves-on : AlwaysMovesOn
 always-moves-on = moves-on
 
--- ---- The rest of a run
+-- ---- The turns of a list of letters
 
 module _ (ks : List Key) (cs : List Command) where
-  -- what a turn leaves of an execution that is at a call of the other kind: its record, and the kinds with more behind them
-  record Left (l : Level) (s t : State) : Type 0 where
-    execution : process l t .execution ≡ process l s .execution
-    more : List Call
-    kinds : t .kinds ≡ s .kinds ++ more
-
-  put-idle : {m l : Level} → Changed m l → (s : State) → OtherKind cs (s .kinds) (process l s)
-      → process l (moved following follows ks cs m s) .execution ≡ process l s .execution
-  put-idle {m} {l} (same e f) s h =
-      let own : OtherKind cs (s .kinds) (process m s) = subst (λ (n : Level). OtherKind cs (s .kinds) (process n s)) (sym e) h in
-      ap (λ (p : Process). p .execution) (f _ (s .processes) ∙ idle cs (s .kinds) (process m s) own ∙ ap (λ (n : Level). process n s) e)
-  put-idle (other f) s h = ap (λ (p : Process). p .execution) (f _ (s .processes))
-
-  move-left : (r : Role) (m l : Level) → role l ≡ follows → (s : State) → OtherKind cs (s .kinds) (process l s) → Left l s (moved following r ks cs m s)
-  unfolding lead
-  move-left leads m l f s h =
-      let k = callAt ks cs s leader in
-      record {
-        execution = ap (λ (p : Process). p .execution) (put-beside l f _ (share k ks s .processes)) ∙ share-execution ks s k l;
-        more = kindsBy k;
-        kinds = share-kinds ks s k;
-      }
-  move-left follows m l f s h = record { execution = put-idle (changed m l) s h; more = []; kinds = sym (append-nil (s .kinds)) }
-
-  turn-left : (m l : Level) → role l ≡ follows → (s : State) → OtherKind cs (s .kinds) (process l s) → Left l s (turn ks cs m s)
-  unfolding turnBy
-  turn-left m l f s h = let t = move-left (role m) m l f s h in record { execution = t .execution; more = t .more; kinds = t .kinds }
-
-  pub idles-for : (l : Level) → role l ≡ follows → (s : State) → OtherKind cs (s .kinds) (process l s) → (ls : List Level) → process l (afterTurns ks cs ls s) .execution ≡ process l s .execution
-  unfolding afterTurns
-  idles-for l f s h [] = refl
-  idles-for l f s h (m ∷ ls) =
-      let t = turn-left m l f s h in
-      let there = subst (λ (kinds : List Call). OtherKind cs kinds (process l (turn ks cs m s))) (sym (t .kinds)) (still cs (s .kinds) (process l s) (process l (turn ks cs m s)) (t .more) (t .execution) h) in
-      idles-for l f (turn ks cs m s) there ls ∙ t .execution
-
-  -- the turns of two lists of letters, one behind the other
+  -- of two lists, one behind the other
   turns-append : (xs ys : List Level) (s : State) → afterTurns ks cs (xs ++ ys) s ≡ afterTurns ks cs ys (afterTurns ks cs xs s)
   unfolding afterTurns
   turns-append [] ys s = refl
   turns-append (x ∷ xs) ys s = turns-append xs ys (turn ks cs x s)
 
-  turns-kinds : (ls : List Level) (s : State) → length (s .kinds) ≡ process leader s .execution .calls → length (afterTurns ks cs ls s .kinds) ≡ process leader (afterTurns ks cs ls s) .execution .calls
-  unfolding afterTurns
-  turns-kinds [] s h = h
-  turns-kinds (l ∷ ls) s h = turns-kinds ls (turn ks cs l s) (turn-kinds ks cs l s h)
+  turns-kinds : (ls : List Level) (s : State) → afterTurns ks cs ls s .kinds ≡ s .kinds ++ lowCalls ks cs ls s
+  unfolding afterTurns lowCalls
+  turns-kinds [] s = sym (append-nil (s .kinds))
+  turns-kinds (l ∷ ls) s =
+      turns-kinds ls (turn ks cs l s)
+      ∙ ap (λ (kinds : List Call). kinds ++ lowCalls ks cs ls (turn ks cs l s)) (turn-kinds ks cs s l)
+      ∙ append-assoc (s .kinds) (newCalls ks cs s (role l)) (lowCalls ks cs ls (turn ks cs l s))
 
-pub idles-on-for : IdlesOn
-idles-on-for = idles-for
+  turns-count : (ls : List Level) (s : State) → length (s .kinds) ≡ callsAt leader s → length (afterTurns ks cs ls s .kinds) ≡ callsAt leader (afterTurns ks cs ls s)
+  unfolding afterTurns
+  turns-count [] s h = h
+  turns-count (l ∷ ls) s h = turns-count ls (turn ks cs l s) (turn-count ks cs s l h)
+
+pub always-kept : AlwaysKept
+unfolding initial fresh at
+always-kept j n =
+    let first = initial (j .keys) (j .messages) in
+    record {
+      kinds = turns-kinds (j .keys) (j .commands) (take n (j .turns)) first;
+      count = turns-count (j .keys) (j .commands) (take n (j .turns)) first refl;
+    }
+
+-- ---- The rest of a run
+
+module _ (ks : List Key) (cs : List Command) (l : Level) (follower : role l ≡ follows) where
+  -- a level's execution is at a call of the other kind
+  abbrev Wrong : State → Type 0
+  Wrong s = OtherKind cs (s .kinds) (process l s)
+
+  put-idle : {m : Level} → Changed m l → (s : State) → Wrong s → process l (moved following follows ks cs m s) .execution ≡ process l s .execution
+  put-idle {m} (same e f) s h =
+      let own : OtherKind cs (s .kinds) (process m s) = subst (λ (n : Level). OtherKind cs (s .kinds) (process n s)) (sym e) h in
+      ap (λ (p : Process). p .execution) (f _ (s .processes) ∙ idle cs (s .kinds) (process m s) own ∙ ap (λ (n : Level). process n s) e)
+  put-idle (other f) s h = ap (λ (p : Process). p .execution) (f _ (s .processes))
+
+  moved-idle : (r : Role) (m : Level) (s : State) → Wrong s → process l (moved following r ks cs m s) .execution ≡ process l s .execution
+  unfolding lead
+  moved-idle leads m s h =
+      let k = callAt ks cs s leader in
+      ap (λ (p : Process). p .execution) (put-beside l follower _ (share k ks s .processes)) ∙ share-execution ks s k l
+  moved-idle follows m s h = put-idle (changed m l) s h
+
+  turn-idle : (m : Level) (s : State) → Wrong s → process l (turn ks cs m s) .execution ≡ process l s .execution
+  unfolding turnBy
+  turn-idle m s h = moved-idle (role m) m s h
+
+  -- it stays at that call
+  turn-wrong : (m : Level) (s : State) → Wrong s → Wrong (turn ks cs m s)
+  turn-wrong m s h =
+      let t = turn ks cs m s in
+      subst (λ (kinds : List Call). OtherKind cs kinds (process l t)) (sym (turn-kinds ks cs s m)) (still cs (s .kinds) (process l s) (process l t) _ (turn-idle m s h) h)
+
+  idles-for : (ls : List Level) (s : State) → Wrong s → process l (afterTurns ks cs ls s) .execution ≡ process l s .execution
+  unfolding afterTurns
+  idles-for [] s h = refl
+  idles-for (m ∷ ls) s h = idles-for ls (turn ks cs m s) (turn-wrong m s h) ∙ turn-idle m s h
+
+pub idles-on : IdlesOn
+idles-on ks cs l follower s h ls = idles-for ks cs l follower ls s h
 
 pub always-idles : AlwaysIdles
-unfolding initial fresh at
 always-idles j lent =
     let f = run-of j lent in
     let end = runJob j lent .counts .positions in
@@ -154,12 +169,12 @@ always-idles j lent =
     record {
       ending = f .ending;
       outcome = f .outcome ∙ ap (λ (n : ℕ). ended (f .ending) (stateAfter j n)) (used-all j lent);
-      idles = λ l follows n most h.
+      idles = λ l follower n most h.
+          let rest = take (end - n) (drop n (j .turns)) in
           let e : end ≡ n + (end - n) = omega arith in
-          let split = ap (λ (m : ℕ). take m (j .turns)) e ∙ take-add n (end - n) (j .turns) in
-          let there = ap (λ (ls : List Level). afterTurns (j .keys) (j .commands) ls first) split ∙ turns-append (j .keys) (j .commands) (take n (j .turns)) (take (end - n) (drop n (j .turns))) first in
-          ap (λ (s : State). process l s .execution) there ∙ idles-for (j .keys) (j .commands) l follows (stateAfter j n) h (take (end - n) (drop n (j .turns)));
-      kinds = λ n. turns-kinds (j .keys) (j .commands) (take n (j .turns)) first refl;
+          let split : take end (j .turns) ≡ take n (j .turns) ++ rest = ap (λ (m : ℕ). take m (j .turns)) e ∙ take-add n (end - n) (j .turns) in
+          let there = ap (λ (ls : List Level). afterTurns (j .keys) (j .commands) ls first) split ∙ turns-append (j .keys) (j .commands) (take n (j .turns)) rest first in
+          ap (λ (s : State). process l s .execution) there ∙ idles-for (j .keys) (j .commands) l follower rest (stateAfter j n) h;
     }
 
 -- ---- Against any other rule
@@ -189,6 +204,7 @@ makers-sheet =
       accepts = refl;
       before = refl;
       now = refl;
+      ending = refl;
       counts = refl;
       other =
           record {

@@ -6,18 +6,18 @@ use mathlib.Core.List.{List, [], _∷_, _++_}
 use lib.ListN.{length, take, length-append}
 use borrow.Author.Tests.{ltb-false}
 use native.Mathlib.{Omega.arith, Nat.zero-add, Nat.le-refl, Nat.mul-suc, Numerals.add-one, Numerals.one-add}
-use Rattle.model.specs.{Step.callOf, Step.callsBy, Step.does, Job.Job, State.Process, State.Processes, State.Incoming, State.State, State.fieldsOf, State.step}
+use Rattle.model.specs.{Step.callOf, Step.callsBy, Job.Job, State.Process, State.Processes, State.Incoming, State.State, State.fieldsOf, State.step}
 use Rattle.model.specs.{State.command}
 use Rattle.model.specs.{State.stopped, State.refill, State.Role, State.leads, State.follows, State.role, State.leader, State.at, State.put, State.takenOf}
 use Rattle.model.specs.{State.takes}
-use Rattle.model.specs.{State.sends, State.stepsBy, State.process, State.noted, Run.Outcome, Run.share, Run.lead, Run.followed, Run.following, Run.moved, Run.turnBy, Run.turn, Run.ended}
+use Rattle.model.specs.{State.sends, State.stepsBy, State.process, State.noted, Run.Outcome, Run.share, Run.lead, Run.followed, Run.following, Run.moved, Run.turnBy, Run.turn, Run.afterTurns, Run.ended}
 use Rattle.model.specs.{Run.settle, Run.runBy, Run.run, Run.initial, Run.fresh, Run.runJobBy, Run.runJob, Message.receive, Message.columns, Message.lineNow}
 use Rattle.model.specs.{Message.send, Line.lineLength}
 use Rattle.model.specs.{Verdict.short, Verdict.lacking, Verdict.noRoom, Verdict.verdictBy, Verdict.verdict, Verdict.idles, Run.waitsAt, Counted.lowsBy, Counted.lows}
-use Rattle.model.specs.{Counted.Counted, CallKinds.afterTurns}
+use Rattle.model.specs.{Counted.Counted}
 use Rattle.model.specs.Data.{Entry, Key, Command, Call, Neither, Receives, Sends, Level, Low, High, Execution, Ending, Stopped, LettersUsed, NoRoom, Clock}
 use Rattle.model.proofs.{Accepted.every-snoc, Levels.Changed, Levels.same, Levels.other, Levels.changed, Turn.callsAt, Turn.step-calls}
-use Rattle.model.proofs.{Turn.share-execution, Turn.turn-kinds, Turn.clock-kept, Turn.turn-clock, Line.Lined, Line.bytes-length}
+use Rattle.model.proofs.{Turn.share-execution, Turn.clock-kept, Turn.turn-clock, Line.Lined, Line.bytes-length}
 
 columns-length : (i : ℕ) (ks : List Key) (f : Level → List Entry) → length (columns i ks f) ≡ length ks
 unfolding columns
@@ -34,7 +34,6 @@ pub record Reached (ks : List Key) (lent all : ℕ) (s : State) : Type 0 where
   pub sent : length (s .outgoing .sent) ≤ s .clock .positions
   pub steps : s .clock .steps ≤ s .clock .positions
   pub calls : (l : Level) → callsAt l s ≤ s .clock .positions
-  pub kinds : length (s .kinds) ≡ callsAt leader s
 
 module _ (ks : List Key) (lent all : ℕ) where
   -- what a turn makes of it before the clock goes on
@@ -160,13 +159,12 @@ module _ (ks : List Key) (lent all : ℕ) where
           sent = omega (arith, m .sent, h .sent, c);
           steps = omega (arith, h .steps, one-step (role l), c, d);
           calls = λ n. omega (arith, m .calls n, h .calls n, c);
-          kinds = turn-kinds ks cs l s (h .kinds);
         }
 
 pub reached-first : (ks : List Key) (lent : ℕ) (ms : List (List Entry)) → Reached ks lent (length ms) (initial ks ms)
 unfolding initial fresh at
 reached-first ks lent ms =
-    record { lined = tt; bytes = omega arith; room = zero-le; taken = omega arith; sent = zero-le; steps = zero-le; calls = fresh-calls; kinds = refl }
+    record { lined = tt; bytes = omega arith; room = zero-le; taken = omega arith; sent = zero-le; steps = zero-le; calls = fresh-calls }
   where
     fresh-calls : (l : Level) → callsAt l (initial ks ms) ≤ 0
     fresh-calls Low = zero-le

@@ -83,14 +83,12 @@ module _ (o : Level) where
   counts (next h r) = (ap suc (counts r .0), ap suc (counts r .1))
 
   -- as many bytes
-  lines-lined : {ks : List Key} {xs ys : List Sent} → SentLike o ks xs ys → (length xs ≡ length ys) × Lined ks xs × Lined ks ys
-  lines-lined none = (refl, tt, tt)
-  lines-lined (more h r) = let n = lines-lined r in (ap suc (n .0), (counts (h .columns) .0, n .1), (counts (h .columns) .1, n .2))
-
   pub same-size : {ks : List Key} {xs ys : List Sent} → SentLike o ks xs ys → length (bytesOf xs) ≡ length (bytesOf ys)
-  same-size {ks} {xs} {ys} h =
-      let n = lines-lined h in
-      bytes-length ks xs (n .1) ∙ ap (λ (m : ℕ). lineLength ks * m) (n .0) ∙ sym (bytes-length ks ys (n .2))
+  unfolding bytesOf
+  same-size none = refl
+  same-size {ks} (more {x = x} {y = y} {xs = xs} {ys = ys} h r) =
+      let wide = counts (h .columns) in
+      omega (arith, length-append (lineBytes x) (bytesOf xs), length-append (lineBytes y) (bytesOf ys), line-size ks x (wide .0), line-size ks y (wide .1), same-size r)
 
   cells-at : {ks : List Key} {es fs : List Entry} → Agree o ks es fs → (q : ℕ) → Clear ks 1 q → getD (cells es) q 0 ≡ getD (cells fs) q 0
   unfolding cells

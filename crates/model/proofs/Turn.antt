@@ -2,14 +2,14 @@
 use Prim.Native.Nat.{ℕ, _+_}
 use mathlib.Core.Path.{_≡_, refl, sym, ap, ap₂, _∙_}
 use mathlib.Core.Bool.{Bool, true, false, cond}
-use mathlib.Core.List.{List, [], _∷_, _++_, append-nil}
-use native.Mathlib.Omega.{arith}
+use mathlib.Core.List.{List, _++_, append-nil}
+use native.Mathlib.{Nat.add-zero, Omega.arith}
 use lib.{IntN.ℤ, IntN.pos, ListN.length, ListN.getD, ListN.length-append, Seq.set-getD}
-use Rattle.model.specs.{Step.variable, Step.calledOf, Step.made, Step.effectBy, Step.steppedBy, Step.does, Step.callOf, Step.callsBy, State.Process, State.Processes}
+use Rattle.model.specs.{Step.variable, Step.calledOf, Step.made, Step.effectBy, Step.steppedBy, Step.does, Step.callOf, Step.kindsBy, Step.callsBy, State.Process, State.Processes}
 use Rattle.model.specs.{State.entry, State.stored, State.step, State.command, State.stopped, State.Role, State.leads, State.follows, State.role, State.leader}
 use Rattle.model.specs.{State.ticked, State.State}
 use Rattle.model.specs.{State.process, State.withProcess, State.noted, State.refill, Message.received, Message.receive, Message.send, Verdict.idles, Run.waitsAt, Run.share, Run.lead, Run.followed, Run.moved}
-use Rattle.model.specs.{Run.following, Run.counted, Run.turnBy, Run.turn}
+use Rattle.model.specs.{Run.following, Run.counted, Run.turnBy, Run.turn, CallKinds.callsIn}
 use Rattle.model.specs.Data.{Entry, Absent, Key, Op, Set, Add, Sub, Mul, Div, Read, Has, Put, Drop, IfNeg, IfZero, Jump, Receive, Send, Stop, Command, Call, Neither}
 use Rattle.model.specs.Data.{Receives, Sends, Level, Low, High, Execution}
 use Rattle.model.proofs.Levels.{leads-not-follows, at-each, put-leader, put-follower, put-at}
@@ -52,17 +52,6 @@ unfolding step entry
 call-step n c p k is call =
     ap (stored p (c .k)) (call-does c (p .execution) (getD (p .fields) (c .k) Absent) n k is call)
     ∙ ap (λ (l : List Entry). record { execution = calledOf (p .execution); fields = l }) (set-getD (p .fields) (c .k) Absent)
-
--- the kinds that a command of the leader adds
-abbrev pub kindsBy : Call → List Call
-kindsBy Neither = []
-kindsBy Receives = Receives ∷ []
-kindsBy Sends = Sends ∷ []
-
-pub kinds-count : (k : Call) → length (kindsBy k) ≡ callsBy k
-kinds-count Neither = refl
-kinds-count Receives = refl
-kinds-count Sends = refl
 
 -- ---- What a call of the leader leaves of each execution and of the kinds
 
@@ -149,7 +138,7 @@ module _ (ks : List Key) (cs : List Command) (s : State) where
   unfolding turnBy
   turn-clock l = ap (ticked l) (clock-kept (role l) l)
 
--- ---- As many kinds as the leader has made calls
+-- ---- The leader's calls and their kinds
 
 -- the calls that an execution has made
 abbrev pub callsAt : Level → State → ℕ
@@ -159,21 +148,35 @@ pub step-calls : (n : ℕ) (c : Command) (p : Process) → step n c p .execution
 unfolding step does
 step-calls n c p = refl
 
-module _ (ks : List Key) (cs : List Command) where
-  moved-kinds : (r : Role) (l : Level) → role l ≡ r → (s : State) → length (s .kinds) ≡ callsAt leader s
-      → length (moved following r ks cs l s .kinds) ≡ callsAt leader (moved following r ks cs l s)
-  unfolding lead
-  moved-kinds leads l e s h =
-      let c = command cs (process leader s) in
-      let k = callOf (c .op) in
-      let t = share k ks s in
-      let own = process leader t in
-      ap length (share-kinds ks s k)
-      ∙ length-append (s .kinds) (kindsBy k)
-      ∙ ap₂ _+_ (h ∙ sym (ap (λ (x : Execution). x .calls) (share-execution ks s k leader))) (kinds-count k)
-      ∙ sym (ap (λ (p : Process). p .execution .calls) (put-leader (step (length cs) c own) (t .processes)) ∙ step-calls (length cs) c own)
-  moved-kinds follows l e s h = h ∙ sym (ap (λ (p : Process). p .execution .calls) (put-follower l e (following cs l s) (s .processes)))
+module _ (ks : List Key) (cs : List Command) (s : State) where
+  -- the calls of the leader in the turn of a level
+  abbrev pub newCalls : Role → List Call
+  newCalls r = callsIn r (callAt ks cs s leader)
 
-  pub turn-kinds : (l : Level) (s : State) → length (s .kinds) ≡ callsAt leader s → length (turn ks cs l s .kinds) ≡ callsAt leader (turn ks cs l s)
+  moved-kinds : (r : Role) (l : Level) → moved following r ks cs l s .kinds ≡ s .kinds ++ newCalls r
+  unfolding lead
+  moved-kinds leads l = share-kinds ks s (callAt ks cs s leader)
+  moved-kinds follows l = sym (append-nil (s .kinds))
+
+  pub turn-kinds : (l : Level) → turn ks cs l s .kinds ≡ s .kinds ++ newCalls (role l)
   unfolding turnBy
-  turn-kinds l s h = moved-kinds (role l) l refl s h
+  turn-kinds l = moved-kinds (role l) l
+
+  moved-calls : (r : Role) (l : Level) → role l ≡ r → callsAt leader (moved following r ks cs l s) ≡ callsAt leader s + length (newCalls r)
+  unfolding lead
+  moved-calls leads l e =
+      let k = callAt ks cs s leader in
+      let t = share k ks s in
+      ap (λ (p : Process). p .execution .calls) (put-leader _ (t .processes))
+      ∙ step-calls (length cs) (command cs (process leader s)) (process leader t)
+      ∙ ap (λ (x : Execution). x .calls + callsBy k) (share-execution ks s k leader)
+  moved-calls follows l e = ap (λ (p : Process). p .execution .calls) (put-follower l e (following cs l s) (s .processes)) ∙ sym (add-zero (callsAt leader s))
+
+  -- they stay as many
+  pub turn-count : (l : Level) → length (s .kinds) ≡ callsAt leader s → length (turn ks cs l s .kinds) ≡ callsAt leader (turn ks cs l s)
+  unfolding turnBy
+  turn-count l h =
+      ap length (moved-kinds (role l) l)
+      ∙ length-append (s .kinds) (newCalls (role l))
+      ∙ ap (λ (n : ℕ). n + length (newCalls (role l))) h
+      ∙ sym (moved-calls (role l) l refl)

@@ -7,9 +7,9 @@ use mathlib.Core.Logic.{_≢_}
 use mathlib.Core.Bool.{Bool, false}
 use mathlib.Core.List.{List, [], _∷_, _++_}
 use lib.{Dec.leb, IntN.pos, ListN.length, ListN.take}
-use Rattle.model.specs.{Text.bytes, Command.blank, Job.Job, Sheet.accepted, Sheet.readSheet, Step.callOf, State.Process, State.step, State.command, State.stopped}
-use Rattle.model.specs.{State.follows, State.role, State.leader, State.State, State.process, Line.bytesOf, Verdict.kindAt, Run.unlessIdle, Run.followed, Run.Rule}
-use Rattle.model.specs.{Run.turn, Run.ended, Run.initial, Run.runJobBy, Run.runJob, Answer.leftBy, Answer.runSheet, Secrecy.Indistinguishable}
+use Rattle.model.specs.{Text.bytes, Command.blank, Job.Job, Sheet.accepted, Sheet.readSheet, Step.callOf, Step.kindsBy, State.Process, State.step, State.command, State.stopped}
+use Rattle.model.specs.{State.Role, State.leads, State.follows, State.role, State.leader, State.State, State.process, Line.bytesOf, Verdict.kindAt, Run.unlessIdle, Run.followed, Run.Rule}
+use Rattle.model.specs.{Run.turn, Run.afterTurns, Run.stateAfter, Run.ended, Run.initial, Run.runJobBy, Run.runJob, Answer.leftBy, Answer.runSheet, Secrecy.Indistinguishable}
 use Rattle.model.specs.{Examples.Example, Examples.prints, Examples.lentByRunsheet}
 use Rattle.model.specs.Data.{Number, Key, Open, Secret, Set, Read, Put, IfZero, Jump, Receive, Send, Command, Call, Neither, Receives, Sends, Level, Low, High}
 use Rattle.model.specs.Data.{Ending}
@@ -21,13 +21,30 @@ pub record SameKind (cs : List Command) (kinds : List Call) (p : Process) : Type
   pub made : p .execution .calls < length kinds
   pub kind : kindAt kinds (p .execution .calls) ≡ callOf (command cs p .op)
 
--- An execution at a call moves on only if it is so; and it does if it is
+-- An execution that follows moves on from a call only if it is so; and if it is so, and it has not stopped, it does
 pub record MovesOn (cs : List Command) (kinds : List Call) (p : Process) : Type 0 where
   pub only : callOf (command cs p .op) ≢ Neither → followed cs kinds p ≢ p → SameKind cs kinds p
-  pub does : stopped cs p ≡ false → SameKind cs kinds p → followed cs kinds p ≡ step (length cs) (command cs p) p
+  pub moves : stopped cs p ≡ false → SameKind cs kinds p → followed cs kinds p ≡ step (length cs) (command cs p) p
 
 abbrev pub AlwaysMovesOn : Type 0
 AlwaysMovesOn = (cs : List Command) (kinds : List Call) (p : Process) → MovesOn cs kinds p
+
+-- The low calls, from the turns: the calls of the leader in one turn, where its command is of this kind, and in the turns of these letters, in their order
+abbrev pub callsIn : Role → Call → List Call
+callsIn leads k = kindsBy k
+callsIn follows k = []
+
+unfoldable pub lowCalls : List Key → List Command → List Level → State → List Call
+lowCalls ks cs [] s = []
+lowCalls ks cs (l ∷ ls) s = callsIn (role l) (callOf (command cs (process leader s) .op)) ++ lowCalls ks cs ls (turn ks cs l s)
+
+-- The kinds in the state are those of all low calls, at every time of a run; and as many as the low execution counts
+pub record KindsKept (j : Job) (n : ℕ) : Type 0 where
+  pub kinds : stateAfter j n .kinds ≡ lowCalls (j .keys) (j .commands) (take n (j .turns)) (initial (j .keys) (j .messages))
+  pub count : length (stateAfter j n .kinds) ≡ process leader (stateAfter j n) .execution .calls
+
+abbrev pub AlwaysKept : Type 0
+AlwaysKept = (j : Job) (n : ℕ) → KindsKept j n
 
 -- ---- "If the kinds differ, the high execution idles for the rest of the run."
 
@@ -37,28 +54,19 @@ pub record OtherKind (cs : List Command) (kinds : List Call) (p : Process) : Typ
   pub made : p .execution .calls < length kinds
   pub other : kindAt kinds (p .execution .calls) ≢ callOf (command cs p .op)
 
--- the state after the turns of these letters; that of a job's run after its first n letters
-unfoldable pub afterTurns : List Key → List Command → List Level → State → State
-afterTurns ks cs [] s = s
-afterTurns ks cs (l ∷ ls) s = afterTurns ks cs ls (turn ks cs l s)
-
-abbrev pub stateAfter : Job → ℕ → State
-stateAfter j n = afterTurns (j .keys) (j .commands) (take n (j .turns)) (initial (j .keys) (j .messages))
-
 -- From any state, whatever letters follow: an execution at a call of the other kind has the record that it had, and its place with it. No flag says so.
 abbrev pub IdlesOn : Type 0
 IdlesOn =
     (ks : List Key) (cs : List Command) (l : Level) → role l ≡ follows → (s : State) → OtherKind cs (s .kinds) (process l s)
     → (ls : List Level) → process l (afterTurns ks cs ls s) .execution ≡ process l s .execution
 
--- A whole run: it ends in the state after the letters that it used, and from the first time that an execution is at a call of the other kind to that end
--- its record is the same. As many kinds are kept as the low execution has made calls, at every time.
+-- A whole run: it ends in the state after the letters that it used, and from any time at which an execution is at a call of the other kind to that end its
+-- record is the same.
 pub record RestOfTheRun (j : Job) (lent : ℕ) : Type 0 where
   pub ending : Ending
   pub outcome : runJob j lent ≡ ended ending (stateAfter j (runJob j lent .counts .positions))
   pub idles : (l : Level) → role l ≡ follows → (n : ℕ) → n ≤ runJob j lent .counts .positions → OtherKind (j .commands) (stateAfter j n .kinds) (process l (stateAfter j n))
       → process l (stateAfter j (runJob j lent .counts .positions)) .execution ≡ process l (stateAfter j n) .execution
-  pub kinds : (n : ℕ) → length (stateAfter j n .kinds) ≡ process leader (stateAfter j n) .execution .calls
 
 abbrev pub AlwaysIdles : Type 0
 AlwaysIdles = (j : Job) (lent : ℕ) → RestOfTheRun j lent
@@ -117,6 +125,7 @@ pub record MakersSheet : Type 0 where
   pub accepts : readSheet sheetWrong ≡ accepted jobWrong
   pub before : bytesOf (runJobBy followingBefore jobWrong lentByRunsheet .lines) ≡ bytes "sent=0013 +0000000002 +0000000007\n"
   pub now : bytesOf (runJob jobWrong lentByRunsheet .lines) ≡ bytes "sent=0013 +0000000002 +0000000002\n"
+  pub ending : runJob jobWrong lentByRunsheet .ending ≡ runJobBy followingBefore jobWrong lentByRunsheet .ending
   pub counts : runJob jobWrong lentByRunsheet .counts ≡ runJobBy followingBefore jobWrong lentByRunsheet .counts
   pub other : OtherKind (jobWrong .commands) (stateAfter jobWrong 7 .kinds) (process High (stateAfter jobWrong 7))
   pub place : process High (stateAfter jobWrong 14) .execution .place ≡ 3

@@ -2,7 +2,7 @@
 use mathlib.Core.List.{List, [], _∷_}
 use Prim.Native.Nat.{ℕ}
 use mathlib.Core.Bool.{Bool, cond}
-use lib.ListN.{length, replicate}
+use lib.ListN.{length, take, replicate}
 use Rattle.model.specs.{State.Process, State.step, State.command, State.stopped, State.Role, State.leads, State.follows, State.role, State.leader, State.Sent}
 use Rattle.model.specs.{State.started, State.ticked, State.State, State.process, State.withProcess, State.withClock, State.noted, Message.receive, Message.send, Step.callOf}
 use Rattle.model.specs.{Step.begun, Verdict.Verdict, Verdict.GoesOn, Verdict.Ends, Verdict.verdict, Verdict.kindAt, Verdict.waits, Verdict.idles, Job.Job}
@@ -28,6 +28,7 @@ waitsAt cs kinds p = waits (callOf (command cs p .op)) (kindAt kinds (p .executi
 abbrev pub unlessIdle : List Command → Bool → Process → Process
 unlessIdle cs waiting p = cond (idles (stopped cs p) waiting) p (step (length cs) (command cs p) p)
 
+-- by Note 2's rule: idle where it has stopped or waits
 unfoldable pub followed : List Command → List Call → Process → Process
 followed cs kinds p = unlessIdle cs (waitsAt cs kinds p) p
 
@@ -97,6 +98,14 @@ initial ks ms =
       outgoing = record { sent = []; bytes = 0 };
       clock = started;
     }
+
+-- the state after the turns of these letters, and that of a job's run after its first n letters
+unfoldable pub afterTurns : List Key → List Command → List Level → State → State
+afterTurns ks cs [] s = s
+afterTurns ks cs (l ∷ ls) s = afterTurns ks cs ls (turn ks cs l s)
+
+abbrev pub stateAfter : Job → ℕ → State
+stateAfter j n = afterTurns (j .keys) (j .commands) (take n (j .turns)) (initial (j .keys) (j .messages))
 
 unfoldable pub runJobBy : Rule → Job → ℕ → Outcome
 runJobBy f j room = runBy f (j .keys) (j .commands) room (initial (j .keys) (j .messages)) (j .turns)

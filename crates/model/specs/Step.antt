@@ -1,5 +1,6 @@
 -- One command of one execution: what it makes of the execution's record and of the one entry that it may read or change.
-use lib.{IntN.ℤ, IntN.pos, ListN.getD, ListN.set, ListN.replicate, Signed.ltZ}
+use mathlib.Core.List.{List, [], _∷_}
+use lib.{IntN.ℤ, IntN.pos, ListN.length, ListN.getD, ListN.set, ListN.replicate, Signed.ltZ}
 use Prim.Native.Nat.{ℕ, _+_}
 use mathlib.Core.Bool.{cond}
 use Rattle.model.specs.{Limits.variables, Arith.sum, Arith.difference, Arith.product, Arith.quotient, Arith.isZero}
@@ -77,11 +78,14 @@ callOf Receive = Receives
 callOf Send = Sends
 callOf Stop = Neither
 
--- how many calls a command makes
+-- the calls that a command makes, none or one, and how many
+abbrev pub kindsBy : Call → List Call
+kindsBy Neither = []
+kindsBy Receives = Receives ∷ []
+kindsBy Sends = Sends ∷ []
+
 abbrev pub callsBy : Call → ℕ
-callsBy Neither = 0
-callsBy Receives = 1
-callsBy Sends = 1
+callsBy k = length (kindsBy k)
 
 -- What a command leaves: the next record of its execution, and the entry at its key
 pub record Stepped : Type 0 where

@@ -44,8 +44,8 @@ verdict ks cs room ls s = verdictBy (stopped cs (process leader s)) (allUsed ls)
 abbrev pub kindAt : List Call → ℕ → Call
 kindAt kinds j = getD kinds j Neither
 
--- Document 02, Note 2: "the j-th high call moves on only if the j-th low call has been made and was of the same kind." So a command of the first kind waits,
--- where the low call of its number is of the second. (One that is no call never waits.)
+-- Document 02, Note 2: "the j-th high call moves on only if the j-th low call has been made and was of the same kind." Whether a command of the first kind waits,
+-- where the low call of its number was of the second, or Neither if it has not been made. (One that is no call never waits.)
 unfoldable pub waits : Call → Call → Bool
 waits Neither low = false
 waits Receives Neither = true

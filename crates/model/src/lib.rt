@@ -40,7 +40,7 @@ pub const LETTER_CAPACITY: usize = 1024;
 
 pub const VARIABLES: usize = 8;
 
-// The kinds of call as bytes, in an array of them.
+// The kinds of call as bytes.
 pub const RECEIVED: u8 = 0;
 
 pub const SENT: u8 = 1;

@@ -34,7 +34,7 @@ ghost use Rattle.model.specs.{Run.runJob, Answer.left, Answer.leftBy, Stored.jo
 
 // A job that reading gave, with an output memory.
 //
-// Per turn only one command, one entry and what changes of one record move. An ending is tested where it can come about: that the letters are used
+// Per turn only one command, one entry, what changes of one record and the kind of one call move. An ending is tested where it can come about: that the letters are used
 // at every turn, the room at a send, the stop after a low step. Every turn ends in its own step of the clock, so that each is one case of the proof.
 pub fn run_job(job: StoredJob, out: &mut [u8]) -> Answer
     requires { ⌜ Sound (jobOf job) × Stored job ⌝ }
@@ -46,6 +46,7 @@ pub fn run_job(job: StoredJob, out: &mut [u8]) -> Answer
     let mut low = Execution::begun();
     let mut high = Execution::begun();
     let mut message = cleared();
+    // The kinds of the low calls, a byte each: there are no more of them than letters.
     let mut kinds = [0u8; LETTER_CAPACITY];
     let mut clock = started();
     let mut bytes: usize = 0;

@@ -48,7 +48,7 @@ fn kind_of(kind: u8) -> Call
     Call::Sends
 }
 
-// The kind of the leader's call number j, from 0, of the n that it has made; kind is the byte that stands at j. Neither where it has made none of that number.
+// The kind of the low call number j, counted from 0, of n that are made; kind is the byte that is stored for it. Neither where it is not made yet.
 pub fn made(j: usize, n: usize, kind: u8) -> Call
     ensures { λ r. ⌜ r ≡ cond (ltb j n) (kindOf kind) Neither ⌝ }
 {
@@ -58,18 +58,18 @@ pub fn made(j: usize, n: usize, kind: u8) -> Call
     Call::Neither
 }
 
-// Whether an execution that follows waits at its call: the leader's call of the same number has not been made, or was of the other kind.
-pub fn waits(call: Call, first: Call) -> bool
-    ensures { λ r. ⌜ r ≡ Verdict·waits call first ⌝ }
+// Whether an execution that follows waits at its call: the low call of the same number has not been made, or was of the other kind.
+pub fn waits(call: Call, low: Call) -> bool
+    ensures { λ r. ⌜ r ≡ Verdict·waits call low ⌝ }
 {
     match call {
         Call::Neither => false,
-        Call::Receives => match first {
+        Call::Receives => match low {
             Call::Neither => true,
             Call::Receives => false,
             Call::Sends => true,
         },
-        Call::Sends => match first {
+        Call::Sends => match low {
             Call::Neither => true,
             Call::Receives => true,
             Call::Sends => false,

@@ -32,7 +32,7 @@ fn start(export: &[u8]) -> String {
 
 // The corners, and the lent memories.
 
-/// The examples of the readings of document 02 stand in these tables, with everything beside them.
+/// The worked examples of the note stand in these tables, with everything beside them.
 #[test]
 fn every_corner_gives_what_the_note_says() {
     let corners = corners();

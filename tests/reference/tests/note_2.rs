@@ -60,7 +60,7 @@ fn a_high_receive_at_a_low_one_moves_on_as_before() {
 }
 
 #[test]
-fn a_high_execution_without_turns_idles_at_nothing() {
+fn high_letters_after_the_end_are_no_turns() {
     let printed = "sent=0006 +0000000002 +0000000002\nend=0 0 7 7 34 2\n";
     assert_eq!(ran(CallRule::SameKind, &LATE).printed(), printed);
     assert_eq!(ran(CallRule::SameKind, &LATE).idle_by_kind, 0);
@@ -94,8 +94,8 @@ fn the_corners_have_both_sides_of_the_rule() {
 
 // What the note changes, and what not.
 
-/// "The six numbers cannot change by this Note ... nor can open columns; only secret columns can",
-/// and these only where a turn was idle by the kind.
+/// The six numbers and the open columns stay what they were; only secret columns change, and these
+/// only where a turn was idle by the kind.
 #[test]
 fn only_secret_columns_change() {
     let mut rng = Rng::new(21);

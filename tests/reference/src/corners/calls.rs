@@ -4,9 +4,8 @@
 
 use super::{Long, Run};
 
-/// The worked examples of the readings of document 02: the maker's program, in which the low
-/// execution receives where the high one sends; the same with a high `receive`; and turns that leave
-/// the high execution none before the run is over.
+/// The maker's program of the note, in which the low execution receives where the high one sends; the
+/// same with a high `receive`; and turns that leave the high execution none before the run is over.
 pub const WRONG: Run = (
     32_768,
     "sheet=1\nkeys=2\nsecret=1:0\ndo=receive\ndo=read 0 1\ndo=ifzero 0 5\ndo=send\ndo=jump 6\n\

@@ -69,7 +69,7 @@ fn joined(pieces: Pieces) -> Vec<u8> {
 /// Bytes lent, export, lines.
 type Written = (usize, &'static [u8], &'static str);
 
-/// The examples of the readings of document 02 that give lines. The one with 32 messages is in
+/// Worked examples of the note that give lines. The one with 32 messages is in
 /// [`LONG`].
 pub const EXAMPLES: &[Written] = &[
     (
@@ -349,7 +349,7 @@ pub const BAD_ROWS: &[&[u8]] = &[
 
 /// Exports of 33 rows and more, and the largest.
 pub const LONG: &[(Pieces, Pieces)] = &[
-    // An example of the readings: 32 messages.
+    // A worked example: 32 messages.
     (&[(b"0\r\n", 1), (b"1\r\n", 32)], &[(b"msg=0:1\n", 32)]),
     (&[(b"3\r\n", 1), (b"\r\n", 32)], &[(b"msg=\n", 32)]),
     (&[(b"0,1\r\n", 1), (b",\r\n", 31)], &[(b"msg=\n", 31)]),
@@ -379,7 +379,7 @@ const MEGABYTE: usize = 1_048_576;
 
 /// Exports with a row too many, and exports much longer than any that is accepted.
 pub const LONG_REFUSED: &[LongRefused] = &[
-    // Examples of the readings.
+    // Worked examples.
     (8, 34, &[(b"0\r\n", 1), (b"1\r\n", 32), (b"\"", 1)]),
     (42, 1, &[(b"1,0\r\n", 1), (b"1\r\n", 40)]),
     // 8: any byte behind the 33rd row's end, "within a row 8 comes first".
