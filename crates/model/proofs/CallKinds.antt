@@ -217,4 +217,4 @@ makers-sheet =
 
 pub texts : AllHold examples
 unfolding opened sheetWith examples
-texts = (refl, (refl, (refl, tt)))
+texts = (refl, (refl, (refl, (refl, (refl, tt)))))

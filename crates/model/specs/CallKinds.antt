@@ -130,10 +130,15 @@ pub record MakersSheet : Type 0 where
   pub other : OtherKind (jobWrong .commands) (stateAfter jobWrong 7 .kinds) (process High (stateAfter jobWrong 7))
   pub place : process High (stateAfter jobWrong 14) .execution .place ≡ 3
 
--- The whole texts; where both receive, the high execution moves on as before; where it would start late, the run has ended
+-- The whole texts: the maker's sheet; where both receive, the high execution moves on as before; where it would start late, the run has ended. Then two where
+-- it moves on and puts its number: both send as their second call; and its first call is held to the first low one, though the last one was a `send`.
 unfoldable pub examples : List Example
 examples =
     prints sheetWrong lentByRunsheet "sent=0013 +0000000002 +0000000002\nend=0 0 14 7 34 2\n"
     ∷ prints (sheetWith "receive" "LHLHLHLHHHHLLL") lentByRunsheet "sent=0013 +0000000002 +0000000007\nend=0 0 14 7 34 2\n"
     ∷ prints (sheetWith "send" "LLLLLLLHHHHHHHH") lentByRunsheet "sent=0006 +0000000002 +0000000002\nend=0 0 7 7 34 2\n"
+    ∷ prints (bytes "sheet=1\nkeys=1\nsecret=0:0\ndo=receive\ndo=send\ndo=set 0 5\ndo=put 0 0\ndo=send\nmsg=0:1\nturns=LHLHHHLLL\n") lentByRunsheet
+    "sent=0002 +0000000001\nsent=0008 +0000000005\nend=0 0 9 5 44 1\n"
+    ∷ prints (bytes "sheet=1\nkeys=1\nsecret=0:0\ndo=receive\ndo=set 0 4\ndo=put 0 0\ndo=send\ndo=send\nmsg=0:9\nturns=LLLLHHHL\n") lentByRunsheet
+    "sent=0003 +0000000009\nsent=0007 +0000000004\nend=0 0 8 5 44 1\n"
     ∷ []
