@@ -38,10 +38,9 @@ call-effect Stop c p a b e end h = absurd (h refl)
 pub call-does : (c : Command) (x : Execution) (e : Entry) (end : ℕ) (k : Call) → callOf (c .op) ≡ k → callsBy k ≡ 1 → does end c x e ≡ record { execution = calledOf x; entry = e }
 unfolding does
 call-does c x e end k is call =
-    let n : x .calls + callsBy (callOf (c .op)) ≡ x .calls + 1 = ap (λ (m : ℕ). x .calls + m) (ap callsBy is ∙ call) in
     let effect = call-effect (c .op) c (x .place) (variable x (c .v)) (variable x (c .w)) e end (λ none. omega (arith, sym call ∙ ap callsBy (sym is ∙ none))) in
-    ap₂ (steppedBy x (c .v)) n effect
-    ∙ ap (λ (vs : List ℤ). record { execution = record { place = x .place + 1; vars = vs; calls = x .calls + 1 }; entry = e }) (set-getD (x .vars) (c .v) (pos 0))
+    ap₂ (steppedBy x (c .v)) is effect
+    ∙ ap₂ (λ (vs : List ℤ) (n : ℕ). record { execution = record { place = x .place + 1; vars = vs; calls = x .calls + n }; entry = e }) (set-getD (x .vars) (c .v) (pos 0)) call
 
 -- a process after a call of its own: its fields are as they were
 abbrev pub called : Process → Process

@@ -21,10 +21,6 @@ presence (Number n) = pos 1
 abbrev pub variable : Execution → ℕ → ℤ
 variable x v = getD (x .vars) v (pos 0)
 
--- the next record: a variable has a value, and the execution is at a place, with so many calls made
-abbrev pub afterOf : Execution → ℕ → ℤ → ℕ → ℕ → Execution
-afterOf x v z p n = record { place = p; vars = set (x .vars) v z; calls = n }
-
 -- the next record after a call
 abbrev pub calledOf : Execution → Execution
 calledOf x = record { place = x .place + 1; vars = x .vars; calls = x .calls + 1 }
@@ -87,15 +83,19 @@ kindsBy Sends = Sends ∷ []
 abbrev pub callsBy : Call → ℕ
 callsBy k = length (kindsBy k)
 
+-- the next record after a command of this kind of call: its variable has the value of its effect, and the execution goes on at its place
+abbrev pub afterOf : Execution → ℕ → Call → Effect → Execution
+afterOf x v k f = record { place = f .place; vars = set (x .vars) v (f .value); calls = x .calls + callsBy k }
+
 -- What a command leaves: the next record of its execution, and the entry at its key
 pub record Stepped : Type 0 where
   pub execution : Execution
   pub entry : Entry
 
--- an effect in the record, which has made so many calls then, and beside it
-abbrev pub steppedBy : Execution → ℕ → ℕ → Effect → Stepped
-steppedBy x v n f = record { execution = afterOf x v (f .value) (f .place) n; entry = f .entry }
+-- an effect in the record, after a command of this kind of call, and beside it
+abbrev pub steppedBy : Execution → ℕ → Call → Effect → Stepped
+steppedBy x v k f = record { execution = afterOf x v k f; entry = f .entry }
 
 -- "Each command is one step.": in a program of n commands
 unfoldable pub does : ℕ → Command → Execution → Entry → Stepped
-does n c x e = steppedBy x (c .v) (x .calls + callsBy (callOf (c .op))) (effectOf c (x .place) (variable x (c .v)) (variable x (c .w)) e n)
+does n c x e = steppedBy x (c .v) (callOf (c .op)) (effectOf c (x .place) (variable x (c .v)) (variable x (c .w)) e n)

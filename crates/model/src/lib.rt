@@ -3,9 +3,9 @@
 // The code takes every limit and every array's length from the constants here. The definitions have the same numbers in specs/Limits.antt and
 // specs/Stored.antt; where the two differ, a contract is not met.
 ghost use mathlib.Core.Path.{_≡_};
-ghost use Prim.Native.Nat.{_<_};
+ghost use Prim.Native.Nat.{_<_, _≤_};
 ghost use lib.ListN.{replicate};
-ghost use Rattle.model.specs.{Limits.variables, Command.blank, Step.begun as Execution·begun, Step.afterOf, Step.calledOf, Stored.keyCapacity};
+ghost use Rattle.model.specs.{Limits.variables, Command.blank, Step.begun as Execution·begun, Step.afterOf, Step.calledOf, Step.callsBy, Stored.keyCapacity};
 ghost use Rattle.model.specs.{Stored.commandCapacity, Stored.messageCapacity, Stored.openSlot, Stored.absentSlot, Stored.blankLine, Stored.nothingStored};
 ghost use Rattle.model.specs.Form.{formOne};
 ghost use Rattle.model.specs.declared.Op.the-variants.{Stop};
@@ -145,6 +145,17 @@ pub enum Call {
     Sends,
 }
 
+// How many calls such a command makes.
+fn calls_by(call: Call) -> usize
+    ensures { λ r. ⌜ (r ≡ callsBy call) × (r ≤ 1) ⌝ }
+{
+    match call {
+        Call::Neither => 0,
+        Call::Receives => 1,
+        Call::Sends => 1,
+    }
+}
+
 // An execution's level, which is also a letter of turns: L or H.
 pub enum Level {
     Low,
@@ -180,13 +191,15 @@ impl Execution {
         self
     }
 
-    // The next record: the variable v has the value, the execution goes on at the place, and has made so many calls.
+    // The next record after a command of this kind of call: the variable v has the value of its effect, and the execution goes on at its place.
     //
     // The places of the array are constants here and in `run_step::holds`, so that a compiler that sees both stores the one change and copies no record.
-    pub fn after(mut self, v: usize, value: i32, place: usize, calls: usize) -> Execution
-        requires { ⌜ v < variables ⌝ }
-        ensures { λ r. ⌜ r ≡ afterOf self v value place calls ⌝ }
+    pub fn after(mut self, v: usize, call: Call, effect: Effect) -> Execution
+        requires { ⌜ (v < variables) × (self .calls < 4294967296) ⌝ }
+        ensures { λ r. ⌜ r ≡ afterOf self v call effect ⌝ }
     {
+        let value = effect.value;
+        let calls = self.calls + calls_by(call);
         match v {
             0 => self.vars[0] = value,
             1 => self.vars[1] = value,
@@ -197,7 +210,7 @@ impl Execution {
             6 => self.vars[6] = value,
             _ => self.vars[7] = value,
         }
-        self.place = place;
+        self.place = effect.place;
         self.calls = calls;
         self
     }

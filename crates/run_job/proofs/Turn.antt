@@ -168,31 +168,30 @@ module _ {j : StoredJob} (ok : Ready j) (sent : List Sent) (h : Held) where
           ∙ ap (stored p (commandOf .k)) (sym er)
 
       -- the effect of the command in hand, put into the record where it changes, and the entry into the level's field: k, v, w are its operands, a and b
-      -- what its variables hold, y the value that goes to the next record, and z what comes from it
+      -- what its variables hold, i its kind, and z the value that comes from the next record
       pub command-turn : Free (role l) → (k v w : ℕ) → k ≡ commandOf .k → v ≡ commandOf .v → w ≡ commandOf .w
           → (a b : ℤ) → a ≡ variable x v → b ≡ variable x w → (e : Entry) → e ≡ side l (getD (h .message) k absentField)
           → (r : Effect) → r ≡ effectOf commandOf (x .place) a b e (j .«command_count»)
-          → (n : ℕ) → n ≡ x .calls + callsBy (callOf (commandOf .op)) → (y : ℤ) → y ≡ r .value
-          → (next : Execution) → next ≡ afterOf x v y (r .place) n → (z : ℤ) → z ≡ variable next v
+          → (i : Call) → i ≡ callOf (commandOf .op) → (next : Execution) → next ≡ afterOf x v i r → (z : ℤ) → z ≡ variable next v
           → (f : Field) → f ≡ withSide l (r .entry) (getD (h .message) k absentField) → (c : Clock) → c ≡ ticked l (h .clock) → (m : List ℕ)
           → Turned j l sent h (commanded l (changedBy x v z next) k f c h) m m
       unfolding does
-      command-turn free k v w ek ev ew a b ea eb e ee r er n en y ey next enext z ez f ef c ec m =
-          let whole : Stepped = steppedBy x v n r in
+      command-turn free k v w ek ev ew a b ea eb e ee r er i ei next enext z ez f ef c ec m =
+          let whole : Stepped = steppedBy x v i r in
           let effect : ℤ → ℤ → Effect = λ p q. effectOf commandOf (x .place) p q e (j .«command_count») in
           let effect-is : r ≡ effect (variable x (commandOf .v)) (variable x (commandOf .w)) = er ∙ ap₂ effect (ea ∙ ap (variable x) ev) (eb ∙ ap (variable x) ew) in
           let does-is : whole ≡ does (j .«command_count») commandOf x e =
-          ap₂ (λ (i : ℕ) (g : Effect). steppedBy x i n g) ev effect-is
-          ∙ ap (λ (i : ℕ). steppedBy x (commandOf .v) i (effect (variable x (commandOf .v)) (variable x (commandOf .w)))) en in
-          let record-is : changedBy x v z next ≡ whole .execution =
-          changed-is x v y (r .place) n next z enext ez ∙ ap (λ (i : ℤ). afterOf x v i (r .place) n) ey in
-          let entry-is = ee ∙ ap (λ (i : ℕ). side l (getD (h .message) i absentField)) ek in
+          ap₂ (λ (o : ℕ) (g : Effect). steppedBy x o i g) ev effect-is
+          ∙ ap (λ (o : Call). steppedBy x (commandOf .v) o (effect (variable x (commandOf .v)) (variable x (commandOf .w)))) ei in
+          let record-is : changedBy x v z next ≡ whole .execution = changed-is x v i r next z enext ez in
+          let entry-is = ee ∙ ap (λ (o : ℕ). side l (getD (h .message) o absentField)) ek in
           still l _ m
           (turn-alone ks cs here l (alone (role l) free)
           ∙ ap (λ (p : Process). counted l (withProcess l p here)) (step-here e entry-is whole does-is)
-          ∙ ap₂ (λ (q : Execution) (i : ℕ). changed l q i (r .entry)) (sym record-is) (sym ek)
+          ∙ ap₂ (λ (q : Execution) (o : ℕ). changed l q o (r .entry)) (sym record-is) (sym ek)
           ∙ changed-is-held l (changedBy x v z next) k f c (r .entry) (omega (arith, key-below)) ef ec
-          (calls-kept l (callOf (commandOf .op)) (no-call (role l) refl free) (changedBy x v z next) (ap (λ (q : Execution). q .calls) enext ∙ en)))
+          (calls-kept l (callOf (commandOf .op)) (no-call (role l) refl free) (changedBy x v z next)
+          (ap (λ (q : Execution). q .calls) enext ∙ ap (λ (o : Call). x .calls + callsBy o) ei)))
 
   -- ---- The leader's calls
 

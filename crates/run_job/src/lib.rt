@@ -13,7 +13,6 @@ use run_message::received;
 use run_message::side;
 use run_message::with;
 use run_step::call_of;
-use run_step::calls_by;
 use run_step::effect_at;
 use run_step::holds;
 use run_step::index;
@@ -115,7 +114,7 @@ pub fn run_job(job: StoredJob, out: &mut [u8]) -> Answer
                         let w = index(c.w);
                         let e = side(f, Level::Low);
                         let r = effect_at(c, p, low.vars[v], low.vars[w], e, count);
-                        let next = low.after(v, r.value, r.place, low.calls);
+                        let next = low.after(v, Call::Neither, r);
                         low.vars[v] = holds(next, v);
                         low.place = next.place;
                         low.calls = next.calls;
@@ -146,7 +145,7 @@ pub fn run_job(job: StoredJob, out: &mut [u8]) -> Answer
                         let w = index(c.w);
                         let e = side(f, Level::High);
                         let r = effect_at(c, p, high.vars[v], high.vars[w], e, count);
-                        let next = high.after(v, r.value, r.place, high.calls + calls_by(call));
+                        let next = high.after(v, call, r);
                         high.vars[v] = holds(next, v);
                         high.place = next.place;
                         high.calls = next.calls;

@@ -1,11 +1,11 @@
 -- What an effect changes of a record.
-use Prim.Native.Nat.{ℕ, zero, suc}
+use Prim.Native.Nat.{ℕ, zero, suc, _+_}
 use mathlib.Core.Path.{_≡_, refl, ap, ap₂, _∙_}
 use mathlib.Core.Bool.{cond}
 use mathlib.Core.List.{List, [], _∷_}
 use lib.{IntN.ℤ, IntN.pos, IntN.negsuc, ListN.getD, ListN.set}
-use Rattle.model.specs.{Arith.isZero, Step.variable, Step.afterOf}
-use Rattle.model.specs.declared.Execution.{Execution}
+use Rattle.model.specs.{Arith.isZero, Step.variable, Step.callsBy, Step.afterOf}
+use Rattle.model.specs.declared.{Call.Call, Effect.Effect, Execution.Execution}
 
 set-back : (xs : List ℤ) (v : ℕ) (z d : ℤ) → set xs v (getD (set xs v z) v d) ≡ set xs v z
 set-back [] v z d = refl
@@ -16,11 +16,11 @@ set-back (x ∷ xs) (suc v) z d = ap (λ (l : List ℤ). x ∷ l) (set-back xs v
 abbrev pub changedBy : Execution → ℕ → ℤ → Execution → Execution
 changedBy x v z next = record { place = next .place; vars = set (x .vars) v z; calls = next .calls }
 
-pub changed-is : (x : Execution) (v : ℕ) (value : ℤ) (place calls : ℕ) (next : Execution) (z : ℤ) → next ≡ afterOf x v value place calls → z ≡ variable next v
-    → changedBy x v z next ≡ afterOf x v value place calls
-changed-is x v value place calls next z en ez =
+pub changed-is : (x : Execution) (v : ℕ) (k : Call) (f : Effect) (next : Execution) (z : ℤ) → next ≡ afterOf x v k f → z ≡ variable next v
+    → changedBy x v z next ≡ afterOf x v k f
+changed-is x v k f next z en ez =
     ap₂ (changedBy x v) (ez ∙ ap (λ (y : Execution). variable y v) en) en
-    ∙ ap (λ (vs : List ℤ). record { place = place; vars = vs; calls = calls }) (set-back (x .vars) v value (pos 0))
+    ∙ ap (λ (vs : List ℤ). record { place = f .place; vars = vs; calls = x .calls + callsBy k }) (set-back (x .vars) v (f .value) (pos 0))
 
 -- a test for zero on the bits is one on the number
 pub nonzero : (z : ℤ) (t p : ℕ) → (z ≡ pos 0 → ⊥) → p ≡ cond (isZero z) t p

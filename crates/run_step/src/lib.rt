@@ -11,9 +11,9 @@ use run_arith::mul;
 use run_arith::sub;
 ghost use mathlib.Core.Path.{_≡_};
 ghost use mathlib.Core.Bool.{cond};
-ghost use Prim.Native.Nat.{_<_, _≤_};
+ghost use Prim.Native.Nat.{_<_};
 ghost use lib.{IntN.pos, Signed.ltZ};
-ghost use Rattle.model.specs.{Limits.variables, Arith.isZero, Step.variable, Step.numberOf, Step.presence, Step.made as Effect·made, Step.effectOf, Step.callOf, Step.callsBy};
+ghost use Rattle.model.specs.{Limits.variables, Arith.isZero, Step.variable, Step.numberOf, Step.presence, Step.made as Effect·made, Step.effectOf, Step.callOf};
 
 // A variable's or a key's number, as an index.
 pub fn index(x: u8) -> usize
@@ -113,17 +113,6 @@ pub fn call_of(op: Op) -> Call
         Op::Receive => Call::Receives,
         Op::Send => Call::Sends,
         Op::Stop => Call::Neither,
-    }
-}
-
-// How many calls such a command makes.
-pub fn calls_by(call: Call) -> usize
-    ensures { λ r. ⌜ (r ≡ callsBy call) × (r ≤ 1) ⌝ }
-{
-    match call {
-        Call::Neither => 0,
-        Call::Receives => 1,
-        Call::Sends => 1,
     }
 }
 

@@ -3,11 +3,11 @@ use Prim.Native.Nat.{ℕ, _+_, _-_, _*_, _<_, _≤_}
 use mathlib.Core.Path.{_≡_, refl, sym, ap, ap₂, _∙_}
 use mathlib.Core.Bool.{false}
 use mathlib.Core.List.{List, []}
-use native.Mathlib.{Omega.arith, Nat.add-zero}
+use native.Mathlib.{Omega.arith}
 use borrow.Author.{Needs.needs, Needs.sfits-of, Tests.lt-ltb, Tests.le-ltb}
 use lib.{ListN.length, ListN.getD, ListN.length-set, ListN.length-replicate}
 use mir.{Syntax.w32, Val.toZ, Val.ofZ, ValLaws.toZ-ofZ}
-use Rattle.model.specs.{Step.variable, Step.callOf, Step.callsBy, Limits.variables, Stored.keyCapacity, Stored.messageCapacity, Stored.letterCapacity, Stored.kindOf}
+use Rattle.model.specs.{Step.variable, Step.callOf, Limits.variables, Stored.keyCapacity, Stored.messageCapacity, Stored.letterCapacity, Stored.kindOf}
 use Rattle.model.specs.{Stored.levelOf, Accepted.Within, State.ticked, Verdict.short, Verdict.waits, Verdict.verdictBy, Run.runJob, Answer.left}
 use Rattle.model.specs.{Answer.leftBy}
 use Rattle.model.specs.Stored as Stored
@@ -86,8 +86,11 @@ small-at c = small (ready c) (c .loop .inv .kept)
 ticks : (c : tie.At-loop Inv-loop2 μ-loop2 Inv-loop3 μ-loop3 Inv-loop μ-loop) → (c .loop .clock .positions < 4294967296) × (c .loop .clock .steps < 4294967296)
 ticks c = (omega (arith, small-at c .positions), omega (arith, small-at c .steps))
 
+small-calls : (c : tie.At-loop Inv-loop2 μ-loop2 Inv-loop3 μ-loop3 Inv-loop μ-loop) (l : Level) → recordOf l (heldAt c) .calls < 4294967296
+small-calls c l = omega (arith, small-at c .calls l, small-at c .positions)
+
 calls-low : (c : tie.At-loop Inv-loop2 μ-loop2 Inv-loop3 μ-loop3 Inv-loop μ-loop) → (c .loop .low .place < 4294967296) × (c .loop .low .calls < 4294967296)
-calls-low c = (omega (arith, c .loop .inv .live, few (ready c) .commands), omega (arith, small-at c .calls Low, small-at c .positions))
+calls-low c = (omega (arith, c .loop .inv .live, few (ready c) .commands), small-calls c Low)
 
 -- ---- Whose turn it is
 
@@ -277,24 +280,21 @@ v-low c = omega (arith, c .index2 .ensures, operands-low (commandLow (c .before 
 w-low : (c : tie.After-index3 Inv-loop2 μ-loop2 Inv-loop3 μ-loop3 Inv-loop μ-loop) → c .index3 .result < variables
 w-low c = omega (arith, c .index3 .ensures, operands-low (commandLow (operandsOf c)) .w)
 
-abbrev effectLow : tie.After-struct-told Inv-loop2 μ-loop2 Inv-loop3 μ-loop3 Inv-loop μ-loop → tie.After-index3 Inv-loop2 μ-loop2 Inv-loop3 μ-loop3 Inv-loop μ-loop
-effectLow c = c .before .before .before .before .before
+abbrev effectLow : tie.After-effect-at Inv-loop2 μ-loop2 Inv-loop3 μ-loop3 Inv-loop μ-loop → tie.After-index3 Inv-loop2 μ-loop2 Inv-loop3 μ-loop3 Inv-loop μ-loop
+effectLow c = c .before .before .before .before
 
 abbrev keyLow : tie.After-with Inv-loop2 μ-loop2 Inv-loop3 μ-loop3 Inv-loop μ-loop → tie.After-index Inv-loop2 μ-loop2 Inv-loop3 μ-loop3 Inv-loop μ-loop
 keyLow c = effectLow (c .before .before .before) .before .before .before
 
-value-low : (c : tie.After-struct-told Inv-loop2 μ-loop2 Inv-loop3 μ-loop3 Inv-loop μ-loop) → toZ w32 (ofZ w32 (c .before .effect-at .result .value)) ≡ c .before .effect-at .result .value
-value-low c = toZ-ofZ w32 (c .before .effect-at .result .value) (search needs)
-
 held-low : (c : tie.After-holds Inv-loop2 μ-loop2 Inv-loop3 μ-loop3 Inv-loop μ-loop) → toZ w32 (ofZ w32 (c .holds .result)) ≡ c .holds .result
 held-low c = toZ-ofZ w32 (c .holds .result) (search needs)
 
-abbrev toldLow : tie.After-ticked3 Inv-loop2 μ-loop2 Inv-loop3 μ-loop3 Inv-loop μ-loop → tie.After-struct-told Inv-loop2 μ-loop2 Inv-loop3 μ-loop3 Inv-loop μ-loop
-toldLow c = c .before .before .before .before
+abbrev doneLow : tie.After-ticked3 Inv-loop2 μ-loop2 Inv-loop3 μ-loop3 Inv-loop μ-loop → tie.After-effect-at Inv-loop2 μ-loop2 Inv-loop3 μ-loop3 Inv-loop μ-loop
+doneLow c = c .before .before .before .before
 
 after-command : (c : tie.After-ticked3 Inv-loop2 μ-loop2 Inv-loop3 μ-loop3 Inv-loop μ-loop) →
     let z = c .before .before in
-    let o = effectLow (toldLow c) in
+    let o = effectLow (doneLow c) in
     let low = commandLow (operandsOf o) in
     let h = heldAt (lowLoop low) in
     let x = changedBy (h .low) (o .before .index2 .result) (toZ w32 (ofZ w32 (z .holds .result))) (z .before .after .result) in
@@ -303,9 +303,8 @@ after-command c =
     let w = c .before in
     let z = w .before in
     let n = z .before in
-    let told = toldLow c in
-    let f = told .before in
-    let o = effectLow told in
+    let f = doneLow c in
+    let o = effectLow f in
     let iv = o .before in
     let ik = iv .before .before in
     let t = operandsOf o in
@@ -317,7 +316,7 @@ after-command c =
     (command-turn (ready l) (l .loop .inv .kept .sent) (heldAt l) Low (l .loop .inv .live) call
     _ _ _ (ik .index .ensures) (iv .index2 .ensures) (o .index3 .ensures)
     _ _ (toZ-ofZ w32 (variable x (iv .index2 .result)) (sfits-of (f .before .before .effect-at-arg .given))) (toZ-ofZ w32 (variable x (o .index3 .result)) (sfits-of (f .before .effect-at-arg2 .given)))
-    _ (f .before .before .before .side .ensures) _ (f .effect-at .ensures) _ (sym (ap (λ (k : Call). x .calls + callsBy k) call ∙ add-zero (x .calls))) _ (value-low told)
+    _ (f .before .before .before .side .ensures) _ (f .effect-at .ensures) _ (sym call)
     _ (n .after .ensures) _ (held-low z ∙ z .holds .ensures) _ (w .with .ensures) _ (c .ticked3 .ensures) _)
 
 -- ---- High turns
@@ -391,15 +390,11 @@ v-high c = omega (arith, c .index5 .ensures, operands-high (c .before .before .b
 w-high : (c : tie.After-index6 Inv-loop2 μ-loop2 Inv-loop3 μ-loop3 Inv-loop μ-loop) → c .index6 .result < variables
 w-high c = omega (arith, c .index6 .ensures, operands-high (movesOf c) .w)
 
-abbrev effectHigh : tie.After-struct-told2 Inv-loop2 μ-loop2 Inv-loop3 μ-loop3 Inv-loop μ-loop → tie.After-index6 Inv-loop2 μ-loop2 Inv-loop3 μ-loop3 Inv-loop μ-loop
-effectHigh c = c .before .before .before .before .before .before
+abbrev effectHigh : tie.After-effect-at2 Inv-loop2 μ-loop2 Inv-loop3 μ-loop3 Inv-loop μ-loop → tie.After-index6 Inv-loop2 μ-loop2 Inv-loop3 μ-loop3 Inv-loop μ-loop
+effectHigh c = c .before .before .before .before
 
 abbrev keyHigh : tie.After-with2 Inv-loop2 μ-loop2 Inv-loop3 μ-loop3 Inv-loop μ-loop → tie.After-index4 Inv-loop2 μ-loop2 Inv-loop3 μ-loop3 Inv-loop μ-loop
 keyHigh c = effectHigh (c .before .before .before) .before .before .before
-
-value-high : (c : tie.After-struct-told2 Inv-loop2 μ-loop2 Inv-loop3 μ-loop3 Inv-loop μ-loop) →
-    toZ w32 (ofZ w32 (c .before .before .effect-at2 .result .value)) ≡ c .before .before .effect-at2 .result .value
-value-high c = toZ-ofZ w32 (c .before .before .effect-at2 .result .value) (search needs)
 
 held-high : (c : tie.After-holds2 Inv-loop2 μ-loop2 Inv-loop3 μ-loop3 Inv-loop μ-loop) → toZ w32 (ofZ w32 (c .holds2 .result)) ≡ c .holds2 .result
 held-high c = toZ-ofZ w32 (c .holds2 .result) (search needs)
@@ -409,10 +404,8 @@ loop-again-6 c =
     let w = c .before in
     let z = w .before in
     let n = z .before in
-    let told = n .before in
-    let by = told .before in
-    let f = by .before in
-    let o = effectHigh told in
+    let f = n .before in
+    let o = effectHigh f in
     let iv = o .before in
     let ik = iv .before .before in
     let e = movesOf o in
@@ -423,7 +416,7 @@ loop-again-6 c =
     (command-turn (ready l) (l .loop .inv .kept .sent) (heldAt l) High (high-live g) (kinds-inside (highLetter (highOf g)) High, waits-is (e .before) ∙ e .if7 .left)
     _ _ _ (ik .index4 .ensures) (iv .index5 .ensures) (o .index6 .ensures)
     _ _ (toZ-ofZ w32 (variable x (iv .index5 .result)) (sfits-of (f .before .before .effect-at-arg3 .given))) (toZ-ofZ w32 (variable x (o .index6 .result)) (sfits-of (f .before .effect-at-arg4 .given)))
-    _ (f .before .before .before .side2 .ensures) _ (f .effect-at2 .ensures) _ (ap (λ (m : ℕ). x .calls + m) (by .calls-by .ensures .0 ∙ ap callsBy (e .before .before .before .call-of2 .ensures))) _ (value-high told)
+    _ (f .before .before .before .side2 .ensures) _ (f .effect-at2 .ensures) _ (e .before .before .before .call-of2 .ensures)
     _ (n .after2 .ensures) _ (held-high z ∙ z .holds2 .ensures) _ (w .with2 .ensures) _ (c .ticked6 .ensures) _)
     refl refl (simp length-set (l .loop .inv .full))
 
@@ -476,7 +469,7 @@ run-job-spec =
     (λ c. omega (arith, key-low c)) (λ c. omega (arith, key-low c)) (λ c κs. search needs) (λ c κs. search needs) (λ c κs. search needs)
     (λ c. omega (arith, v-low (c .before .before))) (λ c. omega (arith, v-low (c .before .before)))
     (λ c. omega (arith, w-low (c .before .before))) (λ c. omega (arith, w-low (c .before .before)))
-    (λ c κs. lowLoop (commandLow (operandsOf (c .before .before .before))) .loop .inv .live) (λ c κs. v-low (effectLow c .before))
+    (λ c κs. lowLoop (commandLow (operandsOf (c .before .before .before))) .loop .inv .live) (λ c κs. (v-low (effectLow c .before), small-calls (lowLoop (commandLow (operandsOf (effectLow c)))) Low))
     (λ c κs. v-low (effectLow (c .before) .before))
     (λ c. omega (arith, v-low (effectLow (c .before .before) .before))) (λ c. omega (arith, v-low (effectLow (c .before .before) .before))) (λ c κs. search needs)
     (λ c. omega (arith, key-low (keyLow c))) (λ c. omega (arith, key-low (keyLow c))) (λ c κs. ticks (lowLoop (commandLow (keyLow c .before))))
@@ -493,9 +486,8 @@ run-job-spec =
     (λ c. omega (arith, key-high c)) (λ c. omega (arith, key-high c)) (λ c κs. search needs) (λ c κs. search needs) (λ c κs. search needs)
     (λ c. omega (arith, v-high (c .before .before))) (λ c. omega (arith, v-high (c .before .before)))
     (λ c. omega (arith, w-high (c .before .before))) (λ c. omega (arith, w-high (c .before .before)))
-    (λ c κs. high-live (goingOf (movesOf (c .before .before .before) .before))) (λ c κs. search needs)
-    (λ c. let at = highLoop (highOf (goingOf (movesOf (c .before .before .before .before .before) .before))) in omega (arith, c .calls-by .ensures .1, small-at at .calls High, small-at at .positions))
-    (λ c κs. v-high (effectHigh c .before)) (λ c κs. v-high (effectHigh (c .before) .before))
+    (λ c κs. high-live (goingOf (movesOf (c .before .before .before) .before)))
+    (λ c κs. (v-high (effectHigh c .before), small-calls (highLoop (highOf (goingOf (movesOf (effectHigh c) .before)))) High)) (λ c κs. v-high (effectHigh (c .before) .before))
     (λ c. omega (arith, v-high (effectHigh (c .before .before) .before))) (λ c. omega (arith, v-high (effectHigh (c .before .before) .before))) (λ c κs. search needs)
     (λ c. omega (arith, key-high (keyHigh c))) (λ c. omega (arith, key-high (keyHigh c))) (λ c κs. ticks (highLoop (highOf (goingOf (keyHigh c .before .before)))))
     (λ c. fewer (highLetter (highOf (goingOf (keyHigh (c .before) .before .before)))) High _ (c .ticked6 .ensures)) loop-again-6)
