@@ -1,18 +1,18 @@
 -- What is claimed of the kinds of calls holds.
 use Prim.Native.Nat.{ℕ, _+_, _-_, _<_}
-use mathlib.Core.Path.{_≡_, refl, sym, _∙_, ap, subst}
+use mathlib.Core.Path.{_≡_, refl, sym, _∙_, ap, ap₂, subst}
 use mathlib.Core.Logic.{_≢_}
 use mathlib.Core.Bool.{Bool, true, false, cond, true≢false}
 use mathlib.Core.List.{List, [], _∷_, _++_, append-nil, append-assoc}
 use lib.{ListN.length, ListN.getD, ListN.take, ListN.drop, ListN.length-append, ListN.List·getD-append, ListN.List·getD-eq-default, Seq.take-add}
 use native.Mathlib.{Omega.arith, Decide.decLt}
-use Rattle.model.specs.{Command.blank, Step.callOf, Step.callsBy, State.Process, State.State, State.Role, State.leads, State.follows, State.role, State.leader}
+use Rattle.model.specs.{Command.blank, Step.callOf, Step.kindsBy, Step.callsBy, State.Process, State.State, State.Role, State.leads, State.follows, State.role, State.leader}
 use Rattle.model.specs.{State.step, State.command, State.stopped, State.at, State.process, Verdict.kindAt, Verdict.waits, Verdict.idles, Run.share, Run.lead, Run.waitsAt, Run.unlessIdle}
-use Rattle.model.specs.{Run.followed, Run.following, Run.moved, Run.turnBy, Run.turn, Run.afterTurns, Run.stateAfter, Run.ended, Run.initial, Run.fresh, Run.Rule, Run.runJobBy, Run.runJob, Answer.runSheet, Examples.AllHold}
+use Rattle.model.specs.{Run.followed, Run.following, Run.moved, Run.turnBy, Run.turn, Run.afterTurns, Run.lowFirst, Run.lowTurns, Run.stateAfter, Run.ended, Run.initial, Run.fresh, Run.Rule, Run.runJobBy, Run.runJob, Answer.runSheet, Examples.AllHold}
 use Rattle.model.specs.Data.{Key, Set, Command, Call, Neither, Receives, Sends, Level, High, Execution}
-use Rattle.model.specs.CallKinds.{MovesOn, AlwaysMovesOn, OtherKind, lowCalls, AlwaysKept, IdlesOn, AlwaysIdles, waitsBefore, followingBefore}
+use Rattle.model.specs.CallKinds.{MovesOn, AlwaysMovesOn, OtherKind, callsIn, AlwaysKept, IdlesOn, AlwaysIdles, waitsBefore, followingBefore}
 use Rattle.model.specs.CallKinds.{OnlySecretColumns, OnlySecretColumnsOfSheets, sheetWith, MakersSheet, examples}
-use Rattle.model.proofs.{Levels.Changed, Levels.same, Levels.other, Levels.changed, Levels.put-beside, Turn.callAt, Turn.callsAt, Turn.newCalls, Turn.share-execution}
+use Rattle.model.proofs.{Levels.Changed, Levels.same, Levels.other, Levels.changed, Levels.put-beside, Turn.callAt, Turn.calls, Turn.countAt, Turn.addedBy, Turn.lowTurn, Turn.share-execution}
 use Rattle.model.proofs.{Levels.low≢high, Levels.follower, Turn.turn-kinds, Turn.turn-count, Counted.run-of, Counted.used-all, Counted.counts-of, Examples.opened}
 use Rattle.model.proofs.{Lockstep.RulesAgree, Lockstep.run-alike, Lockstep.initial-alike, Secrecy.rest-alike, Secrecy.indistinguishable}
 
@@ -101,21 +101,45 @@ module _ (ks : List Key) (cs : List Command) where
   turns-append [] ys s = refl
   turns-append (x ∷ xs) ys s = turns-append xs ys (turn ks cs x s)
 
-  turns-kinds : (ls : List Level) (s : State) → afterTurns ks cs ls s .kinds ≡ s .kinds ++ lowCalls ks cs ls s
-  unfolding afterTurns lowCalls
+  -- the calls of the leader's next turn, if it is its own, and of those behind it
+  first-calls : (r : Role) (p : Process) (ps : List Process) → callsIn cs (lowFirst r p []) ++ callsIn cs ps ≡ callsIn cs (lowFirst r p ps)
+  unfolding callsIn
+  first-calls leads p ps = ap (λ (k : List Call). k ++ callsIn cs ps) (append-nil (kindsBy (callOf (command cs p .op))))
+  first-calls follows p ps = refl
+
+  turns-kinds : (ls : List Level) (s : State) → afterTurns ks cs ls s .kinds ≡ s .kinds ++ callsIn cs (lowTurns ks cs ls s)
+  unfolding afterTurns lowTurns callsIn
   turns-kinds [] s = sym (append-nil (s .kinds))
   turns-kinds (l ∷ ls) s =
+      let later = lowTurns ks cs ls (turn ks cs l s) in
       turns-kinds ls (turn ks cs l s)
-      ∙ ap (λ (kinds : List Call). kinds ++ lowCalls ks cs ls (turn ks cs l s)) (turn-kinds ks cs s l)
-      ∙ append-assoc (s .kinds) (newCalls ks cs s (role l)) (lowCalls ks cs ls (turn ks cs l s))
+      ∙ ap (λ (kinds : List Call). kinds ++ callsIn cs later) (turn-kinds ks cs s l)
+      ∙ append-assoc (s .kinds) (callsIn cs (lowTurn ks cs s (role l))) (callsIn cs later)
+      ∙ ap (λ (k : List Call). s .kinds ++ k) (first-calls (role l) (process leader s) later)
 
-  turns-count : (ls : List Level) (s : State) → length (s .kinds) ≡ callsAt leader s → length (afterTurns ks cs ls s .kinds) ≡ callsAt leader (afterTurns ks cs ls s)
+  -- there are as many kinds as the leader counts calls
+  abbrev Counts : State → Type 0
+  Counts s = length (s .kinds) ≡ countAt calls leader s
+
+  turn-counts : (l : Level) (s : State) → Counts s → Counts (turn ks cs l s)
+  unfolding callsIn calls
+  turn-counts l s h =
+      ap length (turn-kinds ks cs s l)
+      ∙ length-append (s .kinds) (callsIn cs (lowTurn ks cs s (role l)))
+      ∙ ap₂ _+_ h (added (role l))
+      ∙ sym (turn-count ks cs s calls l)
+    where
+      added : (r : Role) → length (callsIn cs (lowTurn ks cs s r)) ≡ addedBy ks cs s calls r
+      added leads = ap length (append-nil (kindsBy (callOf (command cs (process leader s) .op))))
+      added follows = refl
+
+  turns-count : (ls : List Level) (s : State) → Counts s → Counts (afterTurns ks cs ls s)
   unfolding afterTurns
   turns-count [] s h = h
-  turns-count (l ∷ ls) s h = turns-count ls (turn ks cs l s) (turn-count ks cs s l h)
+  turns-count (l ∷ ls) s h = turns-count ls (turn ks cs l s) (turn-counts l s h)
 
 pub always-kept : AlwaysKept
-unfolding initial fresh at
+unfolding initial fresh at calls
 always-kept j n =
     let first = initial (j .keys) (j .messages) in
     record {

@@ -5,8 +5,8 @@ use mathlib.Core.Bool.{Bool, true, false, cond}
 use mathlib.Core.List.{List, [], _∷_, _++_}
 use lib.ListN.{length, take, length-append}
 use borrow.Author.Tests.{ltb-false}
-use native.Mathlib.{Omega.arith, Nat.zero-add, Nat.le-refl, Nat.mul-suc, Numerals.add-one, Numerals.one-add}
-use Rattle.model.specs.{Step.callOf, Step.callsBy, Job.Job, State.Process, State.Processes, State.Incoming, State.State, State.fieldsOf, State.step}
+use native.Mathlib.{Omega.arith, Nat.zero-add, Nat.add-zero, Nat.le-refl, Nat.mul-suc, Numerals.add-one, Numerals.one-add}
+use Rattle.model.specs.{Step.callOf, Job.Job, State.Process, State.Processes, State.Incoming, State.State, State.fieldsOf, State.step}
 use Rattle.model.specs.{State.command}
 use Rattle.model.specs.{State.stopped, State.refill, State.Role, State.leads, State.follows, State.role, State.leader, State.at, State.put, State.takenOf}
 use Rattle.model.specs.{State.takes}
@@ -14,9 +14,9 @@ use Rattle.model.specs.{State.sends, State.stepsBy, State.process, State
 use Rattle.model.specs.{Run.settle, Run.runBy, Run.run, Run.initial, Run.fresh, Run.runJobBy, Run.runJob, Message.receive, Message.columns, Message.lineNow}
 use Rattle.model.specs.{Message.send, Line.lineLength}
 use Rattle.model.specs.{Verdict.short, Verdict.lacking, Verdict.noRoom, Verdict.verdictBy, Verdict.verdict, Verdict.idles, Run.waitsAt, Counted.lowsBy, Counted.lows}
-use Rattle.model.specs.{Counted.Counted}
-use Rattle.model.specs.Data.{Entry, Key, Command, Call, Neither, Receives, Sends, Level, Low, High, Execution, Ending, Stopped, LettersUsed, NoRoom, Clock}
-use Rattle.model.proofs.{Accepted.every-snoc, Levels.Changed, Levels.same, Levels.other, Levels.changed, Turn.callsAt, Turn.step-calls}
+use Rattle.model.specs.{Counted.Counted, Clamped.clampedIn, Run.lowFirst, Run.lowTurns, Run.lowTurnsOf}
+use Rattle.model.specs.Data.{Entry, Key, Command, Call, Neither, Receives, Sends, Level, Low, High, Ending, Stopped, LettersUsed, NoRoom, Clock}
+use Rattle.model.proofs.{Accepted.every-snoc, Levels.Changed, Levels.same, Levels.other, Levels.changed, Turn.Counter, Turn.clamped, Turn.countAt, Turn.addedBy, Turn.turn-count}
 use Rattle.model.proofs.{Turn.share-execution, Turn.clock-kept, Turn.turn-clock, Line.Lined, Line.bytes-length}
 
 columns-length : (i : ℕ) (ks : List Key) (f : Level → List Entry) → length (columns i ks f) ≡ length ks
@@ -33,7 +33,8 @@ pub record Reached (ks : List Key) (lent all : ℕ) (s : State) : Type 0 where
   pub taken : s .incoming .taken + length (s .incoming .rest) ≤ all
   pub sent : length (s .outgoing .sent) ≤ s .clock .positions
   pub steps : s .clock .steps ≤ s .clock .positions
-  pub calls : (l : Level) → callsAt l s ≤ s .clock .positions
+  pub counts : (q : Counter) (l : Level) → countAt q l s ≤ s .clock .positions
+  pub low : (q : Counter) → countAt q leader s ≤ s .clock .steps
 
 module _ (ks : List Key) (lent all : ℕ) where
   -- what a turn makes of it before the clock goes on
@@ -43,11 +44,11 @@ module _ (ks : List Key) (lent all : ℕ) where
     room : t .outgoing .bytes ≤ lent
     taken : t .incoming .taken + length (t .incoming .rest) ≤ all
     sent : length (t .outgoing .sent) ≤ length (s .outgoing .sent) + 1
-    calls : (l : Level) → callsAt l t ≤ callsAt l s + 1
+    counts : (q : Counter) (l : Level) → countAt q l t ≤ countAt q l s + 1
 
   -- where nothing changed
   unmoved : (s : State) → Reached ks lent all s → Moved s s
-  unmoved s h = record { lined = h .lined; bytes = h .bytes; room = h .room; taken = h .taken; sent = omega arith; calls = λ l. omega arith }
+  unmoved s h = record { lined = h .lined; bytes = h .bytes; room = h .room; taken = h .taken; sent = omega arith; counts = λ q l. omega arith }
 
   takes-lines : (i : Incoming) → takes i .taken + length (takes i .rest) ≡ i .taken + length (i .rest)
   unfolding takes
@@ -57,9 +58,9 @@ module _ (ks : List Key) (lent all : ℕ) where
       go [] n = refl
       go (x ∷ xs) n = omega arith
 
-  -- a call of the leader: what it does to the message and the output counts no call yet
-  shared-calls : (k : Call) (s : State) (l : Level) → callsAt l (share k ks s) ≡ callsAt l s
-  shared-calls k s l = ap (λ (x : Execution). x .calls) (share-execution ks s k l)
+  -- a call of the leader: what it does to the message and the output counts nothing yet
+  shared-count : (k : Call) (s : State) (q : Counter) (l : Level) → countAt q l (share k ks s) ≡ countAt q l s
+  shared-count k s q l = ap (q .of) (share-execution ks s k l)
 
   shared : (k : Call) (s : State) → short k (lent - s .outgoing .bytes) (lineLength ks) ≡ false → Reached ks lent all s → Moved s (share k ks s)
   unfolding share receive refill send noted sends short lineNow
@@ -71,7 +72,7 @@ module _ (ks : List Key) (lent all : ℕ) where
         room = h .room;
         taken = omega (arith, h .taken, takes-lines (s .incoming));
         sent = omega arith;
-        calls = λ l. omega (arith, shared-calls Receives s l);
+        counts = λ q l. omega (arith, shared-count Receives s q l);
       }
   shared Sends s e h =
       let fits : lineLength ks ≤ lent - s .outgoing .bytes = ltb-false _ _ e in
@@ -84,34 +85,29 @@ module _ (ks : List Key) (lent all : ℕ) where
         room = omega (arith, h .room);
         taken = h .taken;
         sent = omega arith;
-        calls = λ l. omega arith;
+        counts = λ q l. omega arith;
       }
 
-  -- a command makes at most one call
-  one-call : (k : Call) → callsBy k ≤ 1
-  one-call Neither = zero-le
-  one-call Receives = le-refl 1
-  one-call Sends = le-refl 1
+  step-most : (q : Counter) (n : ℕ) (c : Command) (p : Process) → q .of (step n c p .execution) ≤ q .of (p .execution) + 1
+  step-most q n c p = omega (arith, q .most c (p .execution), q .stepped n c p)
 
-  step-most : (n : ℕ) (c : Command) (p : Process) → step n c p .execution .calls ≤ p .execution .calls + 1
-  step-most n c p = omega (arith, one-call (callOf (c .op)), step-calls n c p)
-
-  put-calls : {l m : Level} → Changed l m → (p : Process) (ps : Processes) (f : Level → ℕ) → p .execution .calls ≤ f l → at m ps .execution .calls ≤ f m → at m (put l p ps) .execution .calls ≤ f m
-  put-calls {l} {m} (same e g) p ps f new old = subst⁻¹ (λ (q : Process). q .execution .calls ≤ f m) (g p ps) (subst (λ (k : Level). p .execution .calls ≤ f k) e new)
-  put-calls {l} {m} (other g) p ps f new old = subst⁻¹ (λ (q : Process). q .execution .calls ≤ f m) (g p ps) old
+  put-count : (q : Counter) {l m : Level} → Changed l m → (p : Process) (ps : Processes) (f : Level → ℕ) → q .of (p .execution) ≤ f l → q .of (at m ps .execution) ≤ f m
+      → q .of (at m (put l p ps) .execution) ≤ f m
+  put-count q {l} {m} (same e g) p ps f new old = subst⁻¹ (λ (r : Process). q .of (r .execution) ≤ f m) (g p ps) (subst (λ (k : Level). q .of (p .execution) ≤ f k) e new)
+  put-count q {l} {m} (other g) p ps f new old = subst⁻¹ (λ (r : Process). q .of (r .execution) ≤ f m) (g p ps) old
 
   module _ (cs : List Command) where
     -- whether a level's turn finds room
     abbrev Roomy : Role → State → Type 0
     Roomy r s = lacking r (callOf (command cs (process leader s) .op)) (lent - s .outgoing .bytes) (lineLength ks) ≡ false
 
-    followed-calls : (kinds : List Call) (p : Process) → followed cs kinds p .execution .calls ≤ p .execution .calls + 1
+    followed-count : (q : Counter) (kinds : List Call) (p : Process) → q .of (followed cs kinds p .execution) ≤ q .of (p .execution) + 1
     unfolding followed
-    followed-calls kinds p = go (idles (stopped cs p) (waitsAt cs kinds p))
+    followed-count q kinds p = go (idles (stopped cs p) (waitsAt cs kinds p))
       where
-        go : (b : Bool) → cond b p (step (length cs) (command cs p) p) .execution .calls ≤ p .execution .calls + 1
+        go : (b : Bool) → q .of (cond b p (step (length cs) (command cs p) p) .execution) ≤ q .of (p .execution) + 1
         go true = omega arith
-        go false = step-most (length cs) (command cs p) p
+        go false = step-most q (length cs) (command cs p) p
 
     after-move : (r : Role) (l : Level) (s : State) → Roomy r s → Reached ks lent all s → Moved s (moved following r ks cs l s)
     unfolding lead
@@ -126,9 +122,9 @@ module _ (ks : List Key) (lent all : ℕ) where
           room = m .room;
           taken = m .taken;
           sent = m .sent;
-          calls = λ n.
-              put-calls (changed leader n) (step (length cs) c own) (t .processes) (λ k. callsAt k s + 1)
-              (omega (arith, step-most (length cs) c own, shared-calls (callOf (c .op)) s leader)) (m .calls n);
+          counts = λ q n.
+              put-count q (changed leader n) (step (length cs) c own) (t .processes) (λ k. countAt q k s + 1)
+              (omega (arith, step-most q (length cs) c own, shared-count (callOf (c .op)) s q leader)) (m .counts q n);
         }
     after-move follows l s e h =
         let p = process l s in
@@ -138,12 +134,17 @@ module _ (ks : List Key) (lent all : ℕ) where
           room = h .room;
           taken = h .taken;
           sent = omega arith;
-          calls = λ n. put-calls (changed l n) (followed cs (s .kinds) p) (s .processes) (λ k. callsAt k s + 1) (followed-calls (s .kinds) p) (omega arith);
+          counts = λ q n. put-count q (changed l n) (followed cs (s .kinds) p) (s .processes) (λ k. countAt q k s + 1) (followed-count q (s .kinds) p) (omega arith);
         }
 
     one-step : (r : Role) → stepsBy r ≤ 1
     one-step leads = le-refl 1
     one-step follows = zero-le
+
+    -- a turn adds to a count of the leader no more than to the low steps
+    added-most : (q : Counter) (s : State) (r : Role) → addedBy ks cs s q r ≤ stepsBy r
+    added-most q s leads = q .most (command cs (process leader s)) (process leader s .execution)
+    added-most q s follows = zero-le
 
     pub turn-reached : (l : Level) (s : State) → Roomy (role l) s → Reached ks lent all s → Reached ks lent all (turn ks cs l s)
     unfolding turnBy
@@ -158,17 +159,18 @@ module _ (ks : List Key) (lent all : ℕ) where
           taken = m .taken;
           sent = omega (arith, m .sent, h .sent, c);
           steps = omega (arith, h .steps, one-step (role l), c, d);
-          calls = λ n. omega (arith, m .calls n, h .calls n, c);
+          counts = λ q n. omega (arith, m .counts q n, h .counts q n, c);
+          low = λ q. omega (arith, turn-count ks cs s q l, added-most q s (role l), h .low q, d);
         }
 
 pub reached-first : (ks : List Key) (lent : ℕ) (ms : List (List Entry)) → Reached ks lent (length ms) (initial ks ms)
 unfolding initial fresh at
 reached-first ks lent ms =
-    record { lined = tt; bytes = omega arith; room = zero-le; taken = omega arith; sent = zero-le; steps = zero-le; calls = fresh-calls }
+    record { lined = tt; bytes = omega arith; room = zero-le; taken = omega arith; sent = zero-le; steps = zero-le; counts = fresh-count; low = λ q. fresh-count q leader }
   where
-    fresh-calls : (l : Level) → callsAt l (initial ks ms) ≤ 0
-    fresh-calls Low = zero-le
-    fresh-calls High = zero-le
+    fresh-count : (q : Counter) (l : Level) → countAt q l (initial ks ms) ≤ 0
+    fresh-count q Low = omega (arith, q .first)
+    fresh-count q High = omega (arith, q .first)
 
 -- ---- Whole runs
 
@@ -189,10 +191,12 @@ pub record From (ks : List Key) (cs : List Command) (lent all : ℕ) (s : State)
   pub bytes : x .counts .bytes ≡ lineLength ks * length (x .lines)
   pub room : x .counts .bytes ≤ lent
   pub taken : x .counts .taken ≤ all
+  pub clamped : x .counts .clamped ≡ countAt clamped leader s + clampedIn cs (lowTurns ks cs (take used ls) s)
+  pub low : x .counts .clamped ≤ x .counts .steps
 
 module _ (ks : List Key) (cs : List Command) (lent all : ℕ) where
   ended-from : (e : Ending) (s : State) (ls : List Level) → Reached ks lent all s → From ks cs lent all s ls (ended e s)
-  unfolding ended lows afterTurns
+  unfolding ended lows afterTurns lowTurns clampedIn clamped
   ended-from e s ls h =
       record {
         used = 0;
@@ -205,10 +209,18 @@ module _ (ks : List Key) (cs : List Command) (lent all : ℕ) where
         bytes = h .bytes;
         room = h .room;
         taken = omega (arith, h .taken);
+        clamped = sym (add-zero (countAt clamped leader s));
+        low = h .low clamped;
       }
 
+  -- what the leader's turn adds to its clamped results is what it says of its exact result
+  low-clamped : (s : State) (r : Role) (ps : List Process) → clampedIn cs (lowFirst r (process leader s) ps) ≡ addedBy ks cs s clamped r + clampedIn cs ps
+  unfolding clampedIn clamped
+  low-clamped s leads ps = refl
+  low-clamped s follows ps = sym (zero-add (clampedIn cs ps))
+
   turn-from : (l : Level) (s : State) (ls : List Level) (x : Outcome) → From ks cs lent all (turn ks cs l s) ls x → From ks cs lent all s (l ∷ ls) x
-  unfolding lows afterTurns
+  unfolding lows afterTurns lowTurns
   turn-from l s ls x h =
       let c = turn-clock ks cs s l in
       record {
@@ -222,6 +234,8 @@ module _ (ks : List Key) (cs : List Command) (lent all : ℕ) where
         bytes = h .bytes;
         room = h .room;
         taken = h .taken;
+        clamped = omega (arith, h .clamped, turn-count ks cs s clamped l, low-clamped s (role l) (lowTurns ks cs (take (h .used) ls) (turn ks cs l s)));
+        low = h .low;
       }
 
   -- where the verdict is to go on, there is room
@@ -249,7 +263,7 @@ unfolding initial
 used-all j lent = let f = run-of j lent in sym (f .positions ∙ zero-add (f .used))
 
 pub counts-of : (j : Job) (lent : ℕ) → Counted j lent
-unfolding lineLength initial
+unfolding lineLength initial fresh at lowTurns clampedIn clamped
 counts-of j lent =
     let f = run-of j lent in
     let u = used-all j lent in
@@ -260,4 +274,6 @@ counts-of j lent =
       sent = bytes-length (j .keys) (runJob j lent .lines) (f .lined) ∙ sym (f .bytes);
       room = f .room;
       taken = f .taken;
+      clamped = f .clamped ∙ zero-add _ ∙ ap (λ (n : ℕ). clampedIn (j .commands) (lowTurnsOf j n)) u;
+      clampedSteps = f .low;
     }

@@ -37,12 +37,12 @@ unfolding Text.bytes Text.classOf Text.same Text.find Text.divide Text.split Tex
     Turns.letter Turns.letters Turns.turnsLine Turns.readTurns
     Form.formOf
     Sheet.targets Sheet.readBody Sheet.readLines Sheet.forbiddenLine Sheet.closed Sheet.readSheet
-    Arith.clamp Arith.sum Arith.difference Arith.product Arith.quotient
+    Arith.clamp Arith.outside Arith.computed Arith.sum Arith.difference Arith.product Arith.quotient
     Step.does Step.callOf
     State.entry State.refill State.step State.command State.stopped State.at State.put State.each State.takes State.sends State.noted
     Message.shown Message.fill Message.received Message.receive Message.source Message.columns Message.lineNow Message.send
     Verdict.waits Verdict.short Verdict.idles Verdict.noRoom Verdict.verdict
-    Run.share Run.lead Run.waitsAt Run.followed Run.turnBy Run.ended Run.runBy Run.fresh Run.initial Run.runJobBy
+    Run.share Run.lead Run.waitsAt Run.followed Run.turnBy Run.ended Run.runBy Run.fresh Run.initial Run.afterTurns Run.runJobBy
     Decimal.digits Decimal.widthTo Decimal.width Decimal.natural Placed.front
     Line.lineLength Line.sign Line.cell Line.cells Line.heading Line.lineBytes Line.bytesOf Line.memoryAfter
     Answer.numbersOf Answer.runSheet Answer.spaced Answer.report Answer.printed
@@ -51,4 +51,4 @@ opened = tt
 
 pub examples : AllHold list
 unfolding opened
-examples = (refl, (refl, (refl, (refl, (refl, (refl, (refl, (refl, (refl, (refl, (refl, (refl, (refl, (refl, (refl, tt)))))))))))))))
+examples = (refl, (refl, (refl, (refl, (refl, (refl, (refl, (refl, (refl, ((refl, refl), ((refl, refl), ((refl, refl), ((refl, refl), ((refl, refl), (refl, tt)))))))))))))))

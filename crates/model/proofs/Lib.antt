@@ -15,4 +15,5 @@ pub mod Secrecy
 pub mod Accepted
 pub mod Witness
 pub mod CallKinds
+pub mod Clamped
 pub mod Written

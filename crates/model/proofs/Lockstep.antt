@@ -178,7 +178,7 @@ module _ (o : Level) (hid : Low ≢ o) (ks : List Key) where
 
     ended-alike : (e : Ending) (s t : State) → Like o ks s t → Same o ks (ended e s) (ended e t)
     unfolding ended
-    ended-alike e s t h = record { ending = refl; counts = cc (h .clock, h .outgoing .bytes, h .incoming .taken); lines = h .outgoing .sent }
+    ended-alike e s t h = record { ending = refl; counts = cc (h .clock, h .outgoing .bytes, h .incoming .taken, h .processes leader hid); lines = h .outgoing .sent }
 
     no-room-alike : (room : ℕ) (ls : List Level) (s t : State) → Like o ks s t → noRoom ks cs room ls s ≡ noRoom ks cs room ls t
     unfolding noRoom

@@ -1,15 +1,16 @@
 -- The laws of one turn: what each kind of turn makes of a state, of any state and by the level whose turn it is.
-use Prim.Native.Nat.{ℕ, _+_}
+use Prim.Native.Nat.{ℕ, _+_, _≤_, zero-le}
 use mathlib.Core.Path.{_≡_, refl, sym, ap, ap₂, _∙_}
 use mathlib.Core.Bool.{Bool, true, false, cond}
-use mathlib.Core.List.{List, _++_, append-nil}
-use native.Mathlib.{Nat.add-zero, Omega.arith}
-use lib.{IntN.ℤ, IntN.pos, ListN.length, ListN.getD, ListN.length-append, Seq.set-getD}
-use Rattle.model.specs.{Step.variable, Step.calledOf, Step.made, Step.effectBy, Step.steppedBy, Step.does, Step.callOf, Step.kindsBy, Step.callsBy, State.Process, State.Processes}
+use mathlib.Core.List.{List, [], _++_, append-nil}
+use native.Mathlib.{Nat.add-zero, Nat.le-refl, Omega.arith}
+use lib.{IntN.ℤ, IntN.pos, ListN.length, ListN.getD, Seq.set-getD, Signed.quotZ}
+use Rattle.model.specs.{Step.variable, Step.calledOf, Step.made, Step.effectBy, Step.steppedBy, Step.does, Step.callOf, Step.kindsBy, Step.callsBy, Step.clampsBy, Step.begun, State.Process, State.Processes}
 use Rattle.model.specs.{State.entry, State.stored, State.step, State.command, State.stopped, State.Role, State.leads, State.follows, State.role, State.leader}
 use Rattle.model.specs.{State.ticked, State.State}
 use Rattle.model.specs.{State.process, State.withProcess, State.noted, State.refill, Message.received, Message.receive, Message.send, Verdict.idles, Run.waitsAt, Run.share, Run.lead, Run.followed, Run.moved}
-use Rattle.model.specs.{Run.following, Run.counted, Run.turnBy, Run.turn, CallKinds.callsIn}
+use Rattle.model.specs.{Run.following, Run.counted, Run.turnBy, Run.turn, Run.lowFirst, CallKinds.callsIn, Clamped.exactOf, Clamped.exactly, Clamped.none, Clamped.layOutside}
+use Rattle.model.specs.Arith.{sum, difference, product, quotient, computed, byZero, isZero}
 use Rattle.model.specs.Data.{Entry, Absent, Key, Op, Set, Add, Sub, Mul, Div, Read, Has, Put, Drop, IfNeg, IfZero, Jump, Receive, Send, Stop, Command, Call, Neither}
 use Rattle.model.specs.Data.{Receives, Sends, Level, Low, High, Execution}
 use Rattle.model.proofs.Levels.{leads-not-follows, at-each, put-leader, put-follower, put-at}
@@ -40,7 +41,8 @@ unfolding does
 call-does c x e end k is call =
     let effect = call-effect (c .op) c (x .place) (variable x (c .v)) (variable x (c .w)) e end (λ none. omega (arith, sym call ∙ ap callsBy (sym is ∙ none))) in
     ap₂ (steppedBy x (c .v)) is effect
-    ∙ ap₂ (λ (vs : List ℤ) (n : ℕ). record { execution = record { place = x .place + 1; vars = vs; calls = x .calls + n }; entry = e }) (set-getD (x .vars) (c .v) (pos 0)) call
+    ∙ ap₂ (λ (vs : List ℤ) (n : ℕ). record { execution = record { place = x .place + 1; vars = vs; calls = x .calls + n; clamped = x .clamped + 0 }; entry = e }) (set-getD (x .vars) (c .v) (pos 0)) call
+    ∙ ap (λ (n : ℕ). record { execution = record { place = x .place + 1; vars = x .vars; calls = x .calls + 1; clamped = n }; entry = e }) (add-zero (x .clamped))
 
 -- a process after a call of its own: its fields are as they were
 abbrev pub called : Process → Process
@@ -66,6 +68,31 @@ module _ (ks : List Key) (s : State) where
   share-kinds Neither = sym (append-nil (s .kinds))
   share-kinds Receives = refl
   share-kinds Sends = refl
+
+-- ---- What a command says
+
+-- one law over the word: it says of its exact result whether that lay outside the range
+pub says : (o : Op) (c : Command) (p : ℕ) (a b : ℤ) (e : Entry) (end : ℕ) → effectBy o c p a b e end .outside ≡ layOutside (exactOf o a b)
+unfolding exactOf sum difference product quotient computed
+says Set c p a b e end = refl
+says Add c p a b e end = refl
+says Sub c p a b e end = refl
+says Mul c p a b e end = refl
+says Div c p a b e end = go (isZero b)
+  where
+    go : (t : Bool) → cond t byZero (computed (quotZ a b)) .outside ≡ layOutside (cond t none (exactly (quotZ a b)))
+    go true = refl
+    go false = refl
+says Read c p a b e end = refl
+says Has c p a b e end = refl
+says Put c p a b e end = refl
+says Drop c p a b e end = refl
+says IfNeg c p a b e end = refl
+says IfZero c p a b e end = refl
+says Jump c p a b e end = refl
+says Receive c p a b e end = refl
+says Send c p a b e end = refl
+says Stop c p a b e end = refl
 
 -- ---- Turns
 
@@ -137,45 +164,86 @@ module _ (ks : List Key) (cs : List Command) (s : State) where
   unfolding turnBy
   turn-clock l = ap (ticked l) (clock-kept (role l) l)
 
--- ---- The leader's calls and their kinds
+-- ---- What is counted in a record
 
--- the calls that an execution has made
-abbrev pub callsAt : Level → State → ℕ
-callsAt l s = process l s .execution .calls
+-- A count in the record of an execution, 0 at first, to which each command adds none or one
+pub record Counter : Type 0 where
+  pub of : Execution → ℕ
+  pub by : Command → Execution → ℕ
+  pub first : of begun ≡ 0
+  pub stepped : (n : ℕ) (c : Command) (p : Process) → of (step n c p .execution) ≡ of (p .execution) + by c (p .execution)
+  pub most : (c : Command) (x : Execution) → by c x ≤ 1
 
-pub step-calls : (n : ℕ) (c : Command) (p : Process) → step n c p .execution .calls ≡ p .execution .calls + callsBy (callOf (c .op))
+-- the calls
+unfoldable pub calls : Counter
 unfolding step does
-step-calls n c p = refl
+calls =
+    record {
+      of = λ x. x .calls;
+      by = λ c x. callsBy (callOf (c .op));
+      first = refl;
+      stepped = λ n c p. refl;
+      most = λ c x. one-call (callOf (c .op));
+    }
+  where
+    one-call : (k : Call) → callsBy k ≤ 1
+    one-call Neither = zero-le
+    one-call Receives = le-refl 1
+    one-call Sends = le-refl 1
+
+-- the clamped results
+unfoldable pub clamped : Counter
+unfolding step does
+clamped =
+    record {
+      of = λ x. x .clamped;
+      by = λ c x. clampsBy (layOutside (exactOf (c .op) (variable x (c .v)) (variable x (c .w))));
+      first = refl;
+      stepped = λ n c p.
+          let x = p .execution in
+          ap (λ (b : Bool). x .clamped + clampsBy b) (says (c .op) c (x .place) (variable x (c .v)) (variable x (c .w)) (entry p (c .k)) n);
+      most = λ c x. one-result (layOutside (exactOf (c .op) (variable x (c .v)) (variable x (c .w))));
+    }
+  where
+    one-result : (b : Bool) → clampsBy b ≤ 1
+    one-result true = le-refl 1
+    one-result false = zero-le
+
+-- of a level's execution
+abbrev pub countAt : Counter → Level → State → ℕ
+countAt q l s = q .of (process l s .execution)
+
+-- ---- What the leader's turns add, and the kinds of its calls
 
 module _ (ks : List Key) (cs : List Command) (s : State) where
-  -- the calls of the leader in the turn of a level
-  abbrev pub newCalls : Role → List Call
-  newCalls r = callsIn r (callAt ks cs s leader)
+  -- the leader, if the turn of a level is its own
+  abbrev pub lowTurn : Role → List Process
+  lowTurn r = lowFirst r (process leader s) []
 
-  moved-kinds : (r : Role) (l : Level) → moved following r ks cs l s .kinds ≡ s .kinds ++ newCalls r
-  unfolding lead
-  moved-kinds leads l = share-kinds ks s (callAt ks cs s leader)
+  moved-kinds : (r : Role) (l : Level) → moved following r ks cs l s .kinds ≡ s .kinds ++ callsIn cs (lowTurn r)
+  unfolding lead callsIn
+  moved-kinds leads l = share-kinds ks s (callAt ks cs s leader) ∙ ap (λ (k : List Call). s .kinds ++ k) (sym (append-nil (kindsBy (callAt ks cs s leader))))
   moved-kinds follows l = sym (append-nil (s .kinds))
 
-  pub turn-kinds : (l : Level) → turn ks cs l s .kinds ≡ s .kinds ++ newCalls (role l)
+  pub turn-kinds : (l : Level) → turn ks cs l s .kinds ≡ s .kinds ++ callsIn cs (lowTurn (role l))
   unfolding turnBy
   turn-kinds l = moved-kinds (role l) l
 
-  moved-calls : (r : Role) (l : Level) → role l ≡ r → callsAt leader (moved following r ks cs l s) ≡ callsAt leader s + length (newCalls r)
-  unfolding lead
-  moved-calls leads l e =
-      let k = callAt ks cs s leader in
-      let t = share k ks s in
-      ap (λ (p : Process). p .execution .calls) (put-leader _ (t .processes))
-      ∙ step-calls (length cs) (command cs (process leader s)) (process leader t)
-      ∙ ap (λ (x : Execution). x .calls + callsBy k) (share-execution ks s k leader)
-  moved-calls follows l e = ap (λ (p : Process). p .execution .calls) (put-follower l e (following cs l s) (s .processes)) ∙ sym (add-zero (callsAt leader s))
+  -- what the turn of a level adds to a count of the leader
+  abbrev pub addedBy : Counter → Role → ℕ
+  addedBy q leads = q .by (command cs (process leader s)) (process leader s .execution)
+  addedBy q follows = 0
 
-  -- they stay as many
-  pub turn-count : (l : Level) → length (s .kinds) ≡ callsAt leader s → length (turn ks cs l s .kinds) ≡ callsAt leader (turn ks cs l s)
+  moved-count : (q : Counter) (r : Role) (l : Level) → role l ≡ r → countAt q leader (moved following r ks cs l s) ≡ countAt q leader s + addedBy q r
+  unfolding lead
+  moved-count q leads l e =
+      let c = command cs (process leader s) in
+      let t = share (callAt ks cs s leader) ks s in
+      ap (λ (p : Process). q .of (p .execution)) (put-leader _ (t .processes))
+      ∙ q .stepped (length cs) c (process leader t)
+      ∙ ap (λ (x : Execution). q .of x + q .by c x) (share-execution ks s (callAt ks cs s leader) leader)
+  moved-count q follows l e = ap (λ (p : Process). q .of (p .execution)) (put-follower l e (following cs l s) (s .processes)) ∙ sym (add-zero (countAt q leader s))
+
+  pub turn-count : (q : Counter) (l : Level) → countAt q leader (turn ks cs l s) ≡ countAt q leader s + addedBy q (role l)
   unfolding turnBy
-  turn-count l h =
-      ap length (moved-kinds (role l) l)
-      ∙ length-append (s .kinds) (newCalls (role l))
-      ∙ ap (λ (n : ℕ). n + length (newCalls (role l))) h
-      ∙ sym (moved-calls (role l) l refl)
+  turn-count q l = moved-count q (role l) l refl

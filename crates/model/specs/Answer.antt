@@ -13,11 +13,12 @@ endingNumber Stopped = 0
 endingNumber LettersUsed = 31
 endingNumber NoRoom = 32
 
--- "Six numbers: ending or refusal number, line, positions used, low steps, bytes written, messages taken." From the input: "the four counts are
--- 0"; from the state: "the line number is 0".
+-- "Six numbers: ending or refusal number, line, positions used, low steps, bytes written, messages taken." Document 02, Note 3: "The answer gains a
+-- seventh number, the clamped results of the low execution alone, which is 0 on a refusal of the sheet." From the input: "the four counts are 0"; from
+-- the state: "the line number is 0".
 unfoldable pub numbersOf : Answer → List ℕ
-numbersOf (Ended e c) = endingNumber e ∷ 0 ∷ c .positions ∷ c .steps ∷ c .bytes ∷ c .taken ∷ []
-numbersOf (Refused n l) = n ∷ l ∷ 0 ∷ 0 ∷ 0 ∷ 0 ∷ []
+numbersOf (Ended e c) = endingNumber e ∷ 0 ∷ c .positions ∷ c .steps ∷ c .bytes ∷ c .taken ∷ c .clamped ∷ []
+numbersOf (Refused n l) = n ∷ l ∷ 0 ∷ 0 ∷ 0 ∷ 0 ∷ 0 ∷ []
 
 -- What a run of a sheet leaves: its answer, and the output memory
 pub record Left : Type 0 where
@@ -47,11 +48,11 @@ spaced [] = []
 spaced (n ∷ []) = natural n
 spaced (n ∷ k ∷ ns) = natural n ++ (space ∷ spaced (k ∷ ns))
 
--- "`end=` with the six numbers, single spaces between and a line feed last"
+-- "`end=` with the six numbers, single spaces between and a line feed last"; Note 3: "The `end=` line shows it last"
 unfoldable pub report : List ℕ → List ℕ
 report ns = bytes "end=" ++ (spaced ns ++ (lineFeed ∷ []))
 
--- the bytes written, the fifth of the six numbers
+-- the bytes written, the fifth of the seven numbers
 abbrev pub bytesWritten : List ℕ → ℕ
 bytesWritten ns = getD ns 4 0
 
@@ -78,7 +79,7 @@ pub record After : Type 0 where
   pub output : List ℕ
   pub answer : List ℕ
 
--- "The six numbers go there in 32 bits each, low byte first, and the first is also the return.": of any numbers, and the output memory m
+-- "The six numbers go there in 32 bits each, low byte first, and the first is also the return.": of any numbers, so of the seven, and the output memory m
 abbrev pub answered : List ℕ → List ℕ → After
 answered ns m = record { returned = getD ns 0 0; output = m; answer = allLe32 ns }
 
@@ -86,14 +87,14 @@ answered ns m = record { returned = getD ns 0 0; output = m; answer = allLe32 ns
 abbrev pub bytesFor : ℕ → ℕ
 bytesFor count = 4 * count
 
--- Refusal 10: "the answer memory is not exactly 24 bytes; returned before anything else, nothing written". An entry whose answer has so many numbers comes
+-- Refusal 10: "the answer memory is not exactly 24 bytes; returned before anything else, nothing written", where Note 3 has 28 for 24. An entry whose answer has so many numbers comes
 -- to x, unless the answer memory a has another length than they take; m is the output memory.
 unfoldable pub entered : ℕ → List ℕ → List ℕ → After → After
 entered count m a x = cond (eqb (length a) (bytesFor count)) x (record { returned = 10; output = m; answer = a })
 
--- "Six numbers": 24 bytes
+-- Note 3: "a seventh number", "The C answer memory becomes 28 bytes, and 10 follows that."
 abbrev pub numberCount : ℕ
-numberCount = 6
+numberCount = 7
 
 abbrev pub answerBytes : ℕ
 answerBytes = bytesFor numberCount

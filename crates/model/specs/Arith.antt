@@ -2,7 +2,7 @@
 use Prim.Native.Nat.{pred, zero, suc}
 use lib.{IntN.ℤ, IntN.negsuc, IntN.pos, IntN._+ℤ_, IntN._-ℤ_, IntN._*ℤ_, Signed.ltZ, Signed.quotZ}
 use mathlib.Core.Bool.{cond, Bool, true, false}
-use Rattle.model.specs.Limits.{leastNumber, greatestNumber}
+use Rattle.model.specs.{Limits.leastNumber, Limits.greatestNumber, Data.Computed}
 
 -- "from -2147483648 to 2147483647"
 abbrev pub least : ℤ
@@ -20,16 +20,28 @@ isZero (pos zero) = true
 isZero (pos (suc n)) = false
 isZero (negsuc n) = false
 
+-- Document 02, Note 3: "Each of `add`, `sub`, `mul` and `div` shall say whether its exact result lay outside the range"
+unfoldable pub outside : ℤ → Bool
+outside z = cond (ltZ z least) true (ltZ greatest z)
+
+-- what is stored of an exact result, and what is said of it
+unfoldable pub computed : ℤ → Computed
+computed z = record { value = clamp z; outside = outside z }
+
 -- "v becomes v + w, v - w, v times w, clamped to the nearest end of the range"
-unfoldable pub sum : ℤ → ℤ → ℤ
-sum a b = clamp (a +ℤ b)
+unfoldable pub sum : ℤ → ℤ → Computed
+sum a b = computed (a +ℤ b)
 
-unfoldable pub difference : ℤ → ℤ → ℤ
-difference a b = clamp (a -ℤ b)
+unfoldable pub difference : ℤ → ℤ → Computed
+difference a b = computed (a -ℤ b)
 
-unfoldable pub product : ℤ → ℤ → ℤ
-product a b = clamp (a *ℤ b)
+unfoldable pub product : ℤ → ℤ → Computed
+product a b = computed (a *ℤ b)
 
--- "quotient cut toward zero and clamped; a zero divisor gives 0"
-unfoldable pub quotient : ℤ → ℤ → ℤ
-quotient a b = cond (isZero b) (pos 0) (clamp (quotZ a b))
+-- "a zero divisor gives 0"; Note 3: "a zero divisor doesn't count"
+abbrev pub byZero : Computed
+byZero = record { value = pos 0; outside = false }
+
+-- "quotient cut toward zero and clamped"
+unfoldable pub quotient : ℤ → ℤ → Computed
+quotient a b = cond (isZero b) byZero (computed (quotZ a b))

@@ -6,10 +6,10 @@ use mathlib.Core.Path.{_≡_}
 use mathlib.Core.Logic.{_≢_}
 use mathlib.Core.Bool.{Bool, false}
 use mathlib.Core.List.{List, [], _∷_, _++_}
-use lib.{Dec.leb, IntN.pos, ListN.length, ListN.take}
+use lib.{Dec.leb, IntN.pos, ListN.length}
 use Rattle.model.specs.{Text.bytes, Command.blank, Job.Job, Sheet.accepted, Sheet.readSheet, Step.callOf, Step.kindsBy, State.Process, State.step, State.command, State.stopped}
-use Rattle.model.specs.{State.Role, State.leads, State.follows, State.role, State.leader, State.State, State.process, Line.bytesOf, Verdict.kindAt, Run.unlessIdle, Run.followed, Run.Rule}
-use Rattle.model.specs.{Run.turn, Run.afterTurns, Run.stateAfter, Run.ended, Run.initial, Run.runJobBy, Run.runJob, Answer.leftBy, Answer.runSheet, Secrecy.Indistinguishable}
+use Rattle.model.specs.{State.follows, State.role, State.leader, State.State, State.process, Line.bytesOf, Verdict.kindAt, Run.unlessIdle, Run.followed, Run.Rule}
+use Rattle.model.specs.{Run.afterTurns, Run.stateAfter, Run.lowTurnsOf, Run.ended, Run.runJobBy, Run.runJob, Answer.leftBy, Answer.runSheet, Secrecy.Indistinguishable}
 use Rattle.model.specs.{Examples.Example, Examples.prints, Examples.lentByRunsheet}
 use Rattle.model.specs.Data.{Number, Key, Open, Secret, Set, Read, Put, IfZero, Jump, Receive, Send, Command, Call, Neither, Receives, Sends, Level, Low, High}
 use Rattle.model.specs.Data.{Ending}
@@ -29,18 +29,14 @@ pub record MovesOn (cs : List Command) (kinds : List Call) (p : Process) : Type 
 abbrev pub AlwaysMovesOn : Type 0
 AlwaysMovesOn = (cs : List Command) (kinds : List Call) (p : Process) → MovesOn cs kinds p
 
--- The low calls, from the turns: the calls of the leader in one turn, where its command is of this kind, and in the turns of these letters, in their order
-abbrev pub callsIn : Role → Call → List Call
-callsIn leads k = kindsBy k
-callsIn follows k = []
-
-unfoldable pub lowCalls : List Key → List Command → List Level → State → List Call
-lowCalls ks cs [] s = []
-lowCalls ks cs (l ∷ ls) s = callsIn (role l) (callOf (command cs (process leader s) .op)) ++ lowCalls ks cs ls (turn ks cs l s)
+-- The calls in these turns of an execution, in their order: those of the commands at which it stood
+unfoldable pub callsIn : List Command → List Process → List Call
+callsIn cs [] = []
+callsIn cs (p ∷ ps) = kindsBy (callOf (command cs p .op)) ++ callsIn cs ps
 
 -- The kinds in the state are those of all low calls, at every time of a run; and as many as the low execution counts
 pub record KindsKept (j : Job) (n : ℕ) : Type 0 where
-  pub kinds : stateAfter j n .kinds ≡ lowCalls (j .keys) (j .commands) (take n (j .turns)) (initial (j .keys) (j .messages))
+  pub kinds : stateAfter j n .kinds ≡ callsIn (j .commands) (lowTurnsOf j n)
   pub count : length (stateAfter j n .kinds) ≡ process leader (stateAfter j n) .execution .calls
 
 abbrev pub AlwaysKept : Type 0
@@ -85,7 +81,7 @@ followingBefore cs l s =
     let p = process l s in
     unlessIdle cs (waitsBefore (callOf (command cs p .op)) (process leader s .execution .calls) (p .execution .calls)) p
 
--- By whatever rule the high execution goes, document 01's or any other, a run leaves the six numbers and every byte outside the secret columns that it leaves
+-- By whatever rule the high execution goes, document 01's or any other, a run leaves the seven numbers and every byte outside the secret columns that it leaves
 -- by this one; of jobs, and of accepted sheets as texts. (A refused sheet is not run.)
 abbrev pub OnlySecretColumns : Type 0
 OnlySecretColumns = (f : Rule) (j : Job) (m : List ℕ) → Indistinguishable High (j .keys) (leftBy m (runJob j (length m))) (leftBy m (runJobBy f j (length m)))
@@ -134,11 +130,11 @@ pub record MakersSheet : Type 0 where
 -- it moves on and puts its number: both send as their second call; and its first call is held to the first low one, though the last one was a `send`.
 unfoldable pub examples : List Example
 examples =
-    prints sheetWrong lentByRunsheet "sent=0013 +0000000002 +0000000002\nend=0 0 14 7 34 2\n"
-    ∷ prints (sheetWith "receive" "LHLHLHLHHHHLLL") lentByRunsheet "sent=0013 +0000000002 +0000000007\nend=0 0 14 7 34 2\n"
-    ∷ prints (sheetWith "send" "LLLLLLLHHHHHHHH") lentByRunsheet "sent=0006 +0000000002 +0000000002\nend=0 0 7 7 34 2\n"
+    prints sheetWrong lentByRunsheet "sent=0013 +0000000002 +0000000002\nend=0 0 14 7 34 2 0\n"
+    ∷ prints (sheetWith "receive" "LHLHLHLHHHHLLL") lentByRunsheet "sent=0013 +0000000002 +0000000007\nend=0 0 14 7 34 2 0\n"
+    ∷ prints (sheetWith "send" "LLLLLLLHHHHHHHH") lentByRunsheet "sent=0006 +0000000002 +0000000002\nend=0 0 7 7 34 2 0\n"
     ∷ prints (bytes "sheet=1\nkeys=1\nsecret=0:0\ndo=receive\ndo=send\ndo=set 0 5\ndo=put 0 0\ndo=send\nmsg=0:1\nturns=LHLHHHLLL\n") lentByRunsheet
-    "sent=0002 +0000000001\nsent=0008 +0000000005\nend=0 0 9 5 44 1\n"
+    "sent=0002 +0000000001\nsent=0008 +0000000005\nend=0 0 9 5 44 1 0\n"
     ∷ prints (bytes "sheet=1\nkeys=1\nsecret=0:0\ndo=receive\ndo=set 0 4\ndo=put 0 0\ndo=send\ndo=send\nmsg=0:9\nturns=LLLLHHHL\n") lentByRunsheet
-    "sent=0003 +0000000009\nsent=0007 +0000000004\nend=0 0 8 5 44 1\n"
+    "sent=0003 +0000000009\nsent=0007 +0000000004\nend=0 0 8 5 44 1 0\n"
     ∷ []

@@ -12,6 +12,7 @@ pub use Rattle.model.specs.declared.Operand.{Operand}
 pub use Rattle.model.specs.declared.Operand.the-variants.{InV, InW, InK, InT, InN}
 pub use Rattle.model.specs.declared.Call.{Call}
 pub use Rattle.model.specs.declared.Call.the-variants.{Neither, Receives, Sends}
+pub use Rattle.model.specs.declared.Computed.{Computed}
 pub use Rattle.model.specs.declared.Level.{Level}
 pub use Rattle.model.specs.declared.Level.the-variants.{Low, High}
 pub use Rattle.model.specs.declared.Execution.{Execution}

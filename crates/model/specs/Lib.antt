@@ -1,5 +1,5 @@
--- Document 01 as definitions, in its order, with the rule of document 02's Note 2 in the turn, and what document 02 shares with it; then what is claimed of
--- them.
+-- Document 01 as definitions, in its order, with the rule of document 02's Note 2 in the turn and Note 3's number in the answer, and what document 02 shares
+-- with it; then what is claimed of them.
 pub mod Data
 pub mod Limits
 pub mod Parsed
@@ -33,3 +33,4 @@ pub mod Accepted
 pub mod Examples
 pub mod Witness
 pub mod CallKinds
+pub mod Clamped

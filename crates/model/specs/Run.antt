@@ -64,9 +64,16 @@ pub record Outcome : Type 0 where
   pub counts : Counts
   pub lines : List Sent
 
--- what the answer counts of a state
+-- what the answer counts of a state; Note 3: "the clamped results of the low execution alone"
 abbrev pub countsOf : State → Counts
-countsOf s = record { positions = s .clock .positions; steps = s .clock .steps; bytes = s .outgoing .bytes; taken = s .incoming .taken }
+countsOf s =
+    record {
+      positions = s .clock .positions;
+      steps = s .clock .steps;
+      bytes = s .outgoing .bytes;
+      taken = s .incoming .taken;
+      clamped = process leader s .execution .clamped;
+    }
 
 unfoldable pub ended : Ending → State → Outcome
 ended e s = record { ending = e; counts = countsOf s; lines = s .outgoing .sent }
@@ -99,13 +106,26 @@ initial ks ms =
       clock = started;
     }
 
--- the state after the turns of these letters, and that of a job's run after its first n letters
+-- the state after the turns of these letters
 unfoldable pub afterTurns : List Key → List Command → List Level → State → State
 afterTurns ks cs [] s = s
 afterTurns ks cs (l ∷ ls) s = afterTurns ks cs ls (turn ks cs l s)
 
+-- the low execution as it stood before each of its own turns, of the turns of these letters in their order
+abbrev pub lowFirst : Role → Process → List Process → List Process
+lowFirst leads p ps = p ∷ ps
+lowFirst follows p ps = ps
+
+unfoldable pub lowTurns : List Key → List Command → List Level → State → List Process
+lowTurns ks cs [] s = []
+lowTurns ks cs (l ∷ ls) s = lowFirst (role l) (process leader s) (lowTurns ks cs ls (turn ks cs l s))
+
+-- the state of a job's run after its first n letters, and the low execution's turns among them
 abbrev pub stateAfter : Job → ℕ → State
 stateAfter j n = afterTurns (j .keys) (j .commands) (take n (j .turns)) (initial (j .keys) (j .messages))
+
+abbrev pub lowTurnsOf : Job → ℕ → List Process
+lowTurnsOf j n = lowTurns (j .keys) (j .commands) (take n (j .turns)) (initial (j .keys) (j .messages))
 
 unfoldable pub runJobBy : Rule → Job → ℕ → Outcome
 runJobBy f j room = runBy f (j .keys) (j .commands) room (initial (j .keys) (j .messages)) (j .turns)

@@ -30,7 +30,7 @@ pub record Hidden (o : Level) (ks : List Key) (bytes p : ℕ) : Type 0 where
   pub from : 10 + 12 * key ≤ p % (10 + 12 * length ks)
   pub to : p % (10 + 12 * length ks) ≤ 20 + 12 * key
 
--- What two runs have in common: the six numbers, the length of the memory, and the byte at every place outside the columns of o's keys
+-- What two runs have in common: the seven numbers, the length of the memory, and the byte at every place outside the columns of o's keys
 pub record Indistinguishable (o : Level) (ks : List Key) (x y : Left) : Type 0 where
   pub numbers : numbersOf (x .answer) ≡ numbersOf (y .answer)
   pub size : length (x .memory) ≡ length (y .memory)

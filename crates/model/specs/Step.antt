@@ -2,10 +2,10 @@
 use mathlib.Core.List.{List, [], _∷_}
 use lib.{IntN.ℤ, IntN.pos, ListN.length, ListN.getD, ListN.set, ListN.replicate, Signed.ltZ}
 use Prim.Native.Nat.{ℕ, _+_}
-use mathlib.Core.Bool.{cond}
+use mathlib.Core.Bool.{Bool, true, false, cond}
 use Rattle.model.specs.{Limits.variables, Arith.sum, Arith.difference, Arith.product, Arith.quotient, Arith.isZero}
 use Rattle.model.specs.Data.{Entry, Absent, Number, Op, Set, Add, Sub, Mul, Div, Read, Has, Put, Drop, IfNeg, IfZero, Jump, Receive, Send, Stop, Command, Call}
-use Rattle.model.specs.Data.{Neither, Receives, Sends, Execution, Effect}
+use Rattle.model.specs.Data.{Neither, Receives, Sends, Computed, Execution, Effect}
 
 -- "v becomes the entry at k, 0 if absent"
 abbrev pub numberOf : Entry → ℤ
@@ -23,25 +23,29 @@ variable x v = getD (x .vars) v (pos 0)
 
 -- the next record after a call
 abbrev pub calledOf : Execution → Execution
-calledOf x = record { place = x .place + 1; vars = x .vars; calls = x .calls + 1 }
+calledOf x = record { place = x .place + 1; vars = x .vars; calls = x .calls + 1; clamped = x .clamped }
 
 -- "Each execution has its place and eight variables, all 0 at first."
 abbrev pub begun : Execution
-begun = record { place = 0; vars = replicate variables (pos 0); calls = 0 }
+begun = record { place = 0; vars = replicate variables (pos 0); calls = 0; clamped = 0 }
 
 -- What a command does, in numbers and one entry. Where it gives its variable no value, that is the one it holds; where it leaves the entry, that is
 -- the one it finds.
 abbrev pub made : ℕ → ℤ → Entry → Effect
-made p z e = record { place = p; value = z; entry = e }
+made p z e = record { place = p; value = z; outside = false; entry = e }
+
+-- and what one of the four operations does
+abbrev pub computes : ℕ → Computed → Entry → Effect
+computes p r e = record { place = p; value = r .value; outside = r .outside; entry = e }
 
 -- The meanings of the words, in the table's order: of a command at the place p, in a program that ends at the place end; a and b are what the variables
 -- v and w hold, e is the entry at k. A call only moves the execution on here: what else it does is said with the turns.
 abbrev pub effectBy : Op → Command → ℕ → ℤ → ℤ → Entry → ℕ → Effect
 effectBy Set c p a b e end = made (p + 1) (c .n) e
-effectBy Add c p a b e end = made (p + 1) (sum a b) e
-effectBy Sub c p a b e end = made (p + 1) (difference a b) e
-effectBy Mul c p a b e end = made (p + 1) (product a b) e
-effectBy Div c p a b e end = made (p + 1) (quotient a b) e
+effectBy Add c p a b e end = computes (p + 1) (sum a b) e
+effectBy Sub c p a b e end = computes (p + 1) (difference a b) e
+effectBy Mul c p a b e end = computes (p + 1) (product a b) e
+effectBy Div c p a b e end = computes (p + 1) (quotient a b) e
 effectBy Read c p a b e end = made (p + 1) (numberOf e) e
 effectBy Has c p a b e end = made (p + 1) (presence e) e
 effectBy Put c p a b e end = made (p + 1) a (Number a)
@@ -83,9 +87,15 @@ kindsBy Sends = Sends ∷ []
 abbrev pub callsBy : Call → ℕ
 callsBy k = length (kindsBy k)
 
--- the next record after a command of this kind of call: its variable has the value of its effect, and the execution goes on at its place
+-- the clamped results of a command, none or one: where its exact result lay outside the range
+abbrev pub clampsBy : Bool → ℕ
+clampsBy true = 1
+clampsBy false = 0
+
+-- the next record after a command of this kind of call: its variable has the value of its effect, the execution goes on at its place, and a clamped
+-- result is counted
 abbrev pub afterOf : Execution → ℕ → Call → Effect → Execution
-afterOf x v k f = record { place = f .place; vars = set (x .vars) v (f .value); calls = x .calls + callsBy k }
+afterOf x v k f = record { place = f .place; vars = set (x .vars) v (f .value); calls = x .calls + callsBy k; clamped = x .clamped + clampsBy (f .outside) }
 
 -- What a command leaves: the next record of its execution, and the entry at its key
 pub record Stepped : Type 0 where

@@ -55,7 +55,7 @@ lent = replicate 64 0
 abbrev pub HiddenAt : ℕ → Type 0
 HiddenAt p = Hidden High keysA (bytesWritten (numbersOf (runSheet sheet2 lent .answer))) p
 
--- P2 and P3 are accepted, alike and not equal, so that demand 3 speaks of them, over jobs and over sheets. Their six numbers are equal, and yet
+-- P2 and P3 are accepted, alike and not equal, so that demand 3 speaks of them, over jobs and over sheets. Their seven numbers are equal, and yet
 -- their outputs differ, at place 22, the sign in the secret column. The places 22 to 32 are hidden, which are that column, and no others: none in
 -- the open column, and none behind the bytes written. And demand 3 shuts something out: it would be false of a sheet with another open entry.
 pub record Telling : Type 0 where

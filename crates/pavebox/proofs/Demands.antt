@@ -1,9 +1,9 @@
--- Demands 1, 2 and 3, from the entry's contract and the theorems about the model.
+-- Demands 1, 2 and 3 and the seventh number, from the entry's contract and the theorems about the model.
 use Prim.Native.Nat.{ℕ, _-_, _≤_}
 use mathlib.Core.Path.{_≡_, refl, sym, ap, _∙_}
 use mathlib.Core.List.{List, []}
 use native.Mathlib.Omega.{arith}
-use lib.ListN.{length, getD}
+use lib.ListN.{length, getD, drop}
 use Rattle.model.specs.{Answer.After, Answer.Left, Answer.numbersOf, Answer.allLe32, Answer.answeredBy, Answer.leftBy, Answer.numberCount, Answer.runSheet, Answer.entered, Answer.runEntry, Answer.le32}
 use Rattle.model.specs.{Job.Job, Placed.front, Line.bytesOf, Line.memoryAfter, Sheet.Reading, Sheet.accepted, Sheet.readSheet, Run.runJob, Secrecy.Indistinguishable, Witness.sheet2}
 use Rattle.model.specs.{Witness.sheet3, Witness.job2, Witness.job3, Witness.lent}
@@ -12,7 +12,7 @@ use Rattle.model.specs.declared.Level.the-variants.{High}
 use Rattle.model.proofs.{Placed.front-length, Counted.counts-of, Examples.opened, Secrecy.secrecy, Witness.telling as witness}
 use Rattle.whole_sheet.proofs.Laws.{accepted-left, refused-left}
 use Rattle.pavebox.proofs.Laws.{entered-sized}
-use Rattle.pavebox.specs.Demands.{Called, Demand2, Demand1Holds, Demand2Holds, Demand3Holds, answerLent, CalledOn, Telling}
+use Rattle.pavebox.specs.Demands.{Called, Demand2, Demand1Holds, Demand2Holds, SeventhHolds, Demand3Holds, answerLent, CalledOn, Telling}
 
 -- ---- What a run sends fits the memory that is lent to it
 
@@ -80,6 +80,17 @@ demand-3 s t j k o a₁ a₂ r₁ r₂ o₁ o₂ b₁ b₂ es et h c₁ c₂ =
 on : (s : List ℕ) → CalledOn s
 on s = record { sized = refl; met = record { returns = refl; outputs = refl; answers = refl } }
 
+pub seventh : SeventhHolds
+unfolding numbersOf allLe32 le32
+seventh s o a r o′ a′ c =
+    let d = second c in
+    record {
+      accepts = λ j e.
+          ap (drop 24) (d .numbers ∙ ap (λ (x : Left). allLe32 (numbersOf (x .answer))) (accepted-left s o j e))
+          ∙ ap le32 (counts-of j (length o) .clamped);
+      refuses = λ n l e. ap (drop 24) (d .numbers ∙ ap (λ (x : Left). allLe32 (numbersOf (x .answer))) (refused-left s o n l e));
+    }
+
 pub telling : Telling
 unfolding opened entered runEntry le32 allLe32
 telling =
@@ -92,4 +103,5 @@ telling =
       apart = λ d. omega (arith, d .byte 20 (λ h. omega (arith, witness .clear 20 h)));
       ended = refl;
       refuses = refl;
+      old = refl;
     }

@@ -1,17 +1,17 @@
--- The three demands, of what the C entry returns and leaves; a call is stated by the contract that the entry is proved to meet.
+-- The three demands, and Note 3's number, of what the C entry returns and leaves; a call is stated by the contract that the entry is proved to meet.
 use Prim.Native.Nat.{ℕ, _+_}
 use mathlib.Core.Path.{_≡_}
 use mathlib.Core.Logic.{_≢_}
 use mathlib.Core.List.{List, [], _++_}
 use lib.ListN.{length, getD, drop, replicate}
-use Rattle.model.specs.{Answer.After, Answer.numbersOf, Answer.allLe32, Answer.answerBytes, Answer.runSheet, Answer.runEntry, Job.Job, Line.bytesOf, Sheet.accepted}
+use Rattle.model.specs.{Answer.After, Answer.numbersOf, Answer.le32, Answer.allLe32, Answer.answerBytes, Answer.runSheet, Answer.runEntry, Job.Job, Line.bytesOf, Sheet.accepted}
 use Rattle.model.specs.{Sheet.readSheet, Run.runJob, Secrecy.Alike, Secrecy.Hidden, Witness.sheet2, Witness.sheet3, Witness.otherSheet, Witness.job2, Witness.job3}
-use Rattle.model.specs.{Witness.lent}
+use Rattle.model.specs.{Run.lowTurnsOf, Clamped.clampedIn, Witness.lent}
 use Rattle.model.specs.Sheet as Sheet
 use Rattle.model.specs.declared.{Level.the-variants.High, Answer.the-variants.Refused}
 use Rattle.pavebox.specs.Entry.{Answered}
 
--- A call with an answer memory of 24 bytes
+-- A call with an answer memory of 28 bytes
 pub record Called (sheet output answer : List ℕ) (returned : ℕ) (output′ answer′ : List ℕ) : Type 0 where
   pub sized : length answer ≡ answerBytes
   pub met : Answered sheet output answer returned output′ answer′
@@ -38,11 +38,20 @@ pub record Demand3 (s t : List ℕ) (a b : Job) (output : List ℕ) (returned₁
   pub size : length output₁ ≡ length output₂
   pub byte : (p : ℕ) → ¬ Hidden High (a .keys) (runJob a (length output) .counts .bytes) p → getD output₁ p 0 ≡ getD output₂ p 0
 
+-- Document 02, Note 3, "a seventh number": the last four bytes of the answer memory say how many of the low execution's turns had an exact result outside the
+-- range; on a refusal 0
+pub record Seventh (sheet output answer : List ℕ) (returned : ℕ) (output′ answer′ : List ℕ) : Type 0 where
+  pub accepts : (j : Job) → readSheet sheet ≡ accepted j → drop 24 answer′ ≡ le32 (clampedIn (j .commands) (lowTurnsOf j (runJob j (length output) .counts .positions)))
+  pub refuses : (n l : ℕ) → readSheet sheet ≡ Sheet.refused n l → drop 24 answer′ ≡ le32 0
+
 abbrev pub Demand1Holds : Type 0
 Demand1Holds = (s o a : List ℕ) (r : ℕ) (o′ a′ : List ℕ) → Called s o a r o′ a′ → Demand1 s o a r o′ a′
 
 abbrev pub Demand2Holds : Type 0
 Demand2Holds = (s o a : List ℕ) (r : ℕ) (o′ a′ : List ℕ) → Called s o a r o′ a′ → Demand2 s o a r o′ a′
+
+abbrev pub SeventhHolds : Type 0
+SeventhHolds = (s o a : List ℕ) (r : ℕ) (o′ a′ : List ℕ) → Called s o a r o′ a′ → Seventh s o a r o′ a′
 
 abbrev pub Demand3Holds : Type 0
 Demand3Holds =
@@ -53,7 +62,7 @@ Demand3Holds =
 
 -- ---- The demands speak of something
 
--- an answer memory of 24 bytes, and what the entry returns and leaves for a sheet on it and on some memory
+-- an answer memory of 28 bytes, and what the entry returns and leaves for a sheet on it and on some memory
 abbrev pub answerLent : List ℕ
 answerLent = replicate answerBytes 0
 
@@ -69,7 +78,8 @@ abbrev pub Demand3Of : List ℕ → List ℕ → Job → Job → Type 0
 Demand3Of s t a b = Demand3 s t a b lent (after s .returned) (after t .returned) (after s .output) (after t .output) (after s .answer) (after t .answer)
 
 -- Calls with P2, P3 and the empty sheet are calls as the demands have them. Demand 3 holds of P2 and P3, whose outputs differ all the same, at place
--- 22 in the secret column; it would be false of a sheet with another open entry. An accepted sheet returns 0, the empty one 2.
+-- 22 in the secret column; it would be false of a sheet with another open entry. An accepted sheet returns 0, the empty one 2; with an answer memory of 24
+-- bytes, which six numbers took, it returns 10 and leaves both memories as they were.
 pub record Telling : Type 0 where
   pub second : CalledOn sheet2
   pub third : CalledOn sheet3
@@ -79,3 +89,4 @@ pub record Telling : Type 0 where
   pub apart : ¬ Demand3Of sheet2 otherSheet job2 job2
   pub ended : after sheet2 .returned ≡ 0
   pub refuses : after [] .returned ≡ 2
+  pub old : runEntry sheet2 lent (replicate 24 0) ≡ record { returned = 10; output = lent; answer = replicate 24 0 }

@@ -8,7 +8,7 @@ use write_answer::put_numbers;
 use write_answer::text_numbers;
 ghost use Rattle.pavebox.specs.Entry.{Answered, LogAnswered};
 
-// An answer memory of another length than 24 bytes gets 10, and nothing is written; else the sheet is run on the output memory, the six numbers go
+// An answer memory of another length than 28 bytes gets 10, and nothing is written; else the sheet is run on the output memory, the seven numbers go
 // into the answer memory, and the first of them is returned.
 #[no_mangle]
 pub extern "C" fn pavebox_run(sheet: &[u8], output: &mut [u8], answer: &mut [u8]) -> u32

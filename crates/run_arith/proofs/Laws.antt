@@ -1,13 +1,15 @@
--- Bounds on the integers that the machine's signed operations ask, what `clamp` is in each of its cases, and one law for
--- every operation that is done at `i64` and clamped. Assumes nothing.
+-- Bounds on the integers that the machine's signed operations ask, what `computed` is in each of its cases, and one law for
+-- every operation that is done at `i64` and then computed. Assumes nothing.
 use mathlib.Core.Path.{_≡_, refl, ap, _∙_}
 use mathlib.Core.Bool.{Bool, true, false, not, cond, true≢false}
 use Prim.Native.Nat.{ℕ, zero, suc, _+_, _*_, _/_, _^_, _≤_, _<_}
-use native.Mathlib.{Nat.mul-le-mul, Nat.div-le-self, Nat.le-refl, Nat.le-suc, Nat.le-trans, Nat.lt-of-le-of-lt, Omega.arith}
+use native.Mathlib.{Nat.mul-le-mul, Nat.div-le-self, Nat.sub-le, Nat.le-refl, Nat.le-suc, Nat.le-trans, Nat.lt-of-le-of-lt, Omega.arith}
 use lib.{IntN.ℤ, IntN.pos, IntN.negsuc, IntN.negℤ, IntN.subℕ, IntN._+ℤ_, IntN._-ℤ_, IntN._*ℤ_, Dec.T, Dec.ltb, Dec.lit<, Signed.mag, Signed.ltZ, Signed.quotZ}
 use borrow.Author.Tests.{ltb-false}
 use mir.{Syntax.w32, Syntax.w64, Val.SFits, Val.toZ, Val.ofZ, Facts.sfits-widen, Facts.toZ-ofZ}
-use Rattle.model.specs.{Limits.greatestNumber, Arith.clamp, Arith.quotient, Arith.isZero, Arith.least, Arith.greatest}
+use Rattle.model.specs.{Limits.greatestNumber, Arith.clamp, Arith.outside, Arith.computed, Arith.quotient, Arith.byZero, Arith.isZero, Arith.least, Arith.greatest}
+use Rattle.model.specs.declared.Computed.{Computed}
+use Rattle.model.proofs.Clamped.{mag-negpos}
 
 -- a cast to a wider signed type
 module _ {z : ℤ} (fits : SFits w32 z) where
@@ -34,10 +36,6 @@ mag-neg (pos zero) = omega arith
 mag-neg (pos (suc n)) = omega arith
 mag-neg (negsuc n) = omega arith
 
-mag-negpos : (n : ℕ) → mag (negℤ (pos n)) ≤ n
-mag-negpos zero = omega arith
-mag-negpos (suc n) = omega arith
-
 mag-add : (a b : ℤ) → mag (a +ℤ b) ≤ suc (mag a + mag b)
 mag-add (pos a) (pos b) = omega arith
 mag-add (pos a) (negsuc b) = omega (arith, mag-subℕ a (suc b))
@@ -49,8 +47,8 @@ mag-sub a b = omega (arith, mag-add a (negℤ b), mag-neg b)
 
 mag-mul : (a b : ℤ) → mag (a *ℤ b) ≤ suc (mag a) * suc (mag b)
 mag-mul (pos a) (pos b) = mul-le-mul (omega arith) (omega arith)
-mag-mul (pos a) (negsuc b) = le-trans (mag-negpos (a * suc b)) (mul-le-mul (le-suc a) (le-refl (suc b)))
-mag-mul (negsuc a) (pos b) = le-trans (mag-negpos (suc a * b)) (mul-le-mul (le-refl (suc a)) (le-suc b))
+mag-mul (pos a) (negsuc b) = le-trans (le-trans (mag-negpos (a * suc b)) (sub-le (a * suc b) 1)) (mul-le-mul (le-suc a) (le-refl (suc b)))
+mag-mul (negsuc a) (pos b) = le-trans (le-trans (mag-negpos (suc a * b)) (sub-le (suc a * b) 1)) (mul-le-mul (le-refl (suc a)) (le-suc b))
 mag-mul (negsuc a) (negsuc b) = le-refl _
 
 mag-quot : (a b : ℤ) → mag (quotZ a b) ≤ suc (mag a)
@@ -84,25 +82,22 @@ module _ (op : ℤ → ℤ → ℤ) {a b : ℤ} (fa : SFits w32 a) (fb : SFits w
   pub asked : SFits w64 (op (wide a) (wide b))
   asked = rw operands fits
 
-  -- what a function F of the exact result answers
-  carried : {X : Type 0} (F : ℤ → X) {r : X} → r ≡ F (toZ w64 (ofZ w64 (op (wide a) (wide b)))) → r ≡ F (op a b)
-  carried F e = e ∙ ap F (ap (λ (z : ℤ). toZ w64 (ofZ w64 z)) operands ∙ toZ-ofZ {w = w64} fits)
+  -- what is computed of the exact result
+  pub answered : {r : Computed} → r ≡ computed (toZ w64 (ofZ w64 (op (wide a) (wide b)))) → r ≡ computed (op a b)
+  answered e = e ∙ ap computed (ap (λ (z : ℤ). toZ w64 (ofZ w64 z)) operands ∙ toZ-ofZ {w = w64} fits)
 
-  pub answered : {r : ℤ} → mag r < 2 ^ 31 → r ≡ clamp (toZ w64 (ofZ w64 (op (wide a) (wide b)))) → toZ w32 (ofZ w32 r) ≡ clamp (op a b)
-  answered ok e = returned ok (carried clamp e)
+-- the cases of `computed`
+pub computed-low : (z : ℤ) → ltZ z least ≡ true → record { value = least; outside = true } ≡ computed z
+unfolding computed clamp outside
+computed-low z h = simp h
 
--- the cases of `clamp`
-pub clamp-low : (z : ℤ) → ltZ z least ≡ true → least ≡ clamp z
-unfolding clamp
-clamp-low z h = simp h
+pub computed-high : (z : ℤ) → ltZ z least ≡ false → ltZ greatest z ≡ true → record { value = greatest; outside = true } ≡ computed z
+unfolding computed clamp outside
+computed-high z h k = simp (h, k)
 
-pub clamp-high : (z : ℤ) → ltZ z least ≡ false → ltZ greatest z ≡ true → greatest ≡ clamp z
-unfolding clamp
-clamp-high z h k = simp (h, k)
-
-pub clamp-in : (z : ℤ) → ltZ z least ≡ false → ltZ greatest z ≡ false → z ≡ clamp z
-unfolding clamp
-clamp-in z h k = simp (h, k)
+pub computed-in : (z : ℤ) → ltZ z least ≡ false → ltZ greatest z ≡ false → record { value = z; outside = false } ≡ computed z
+unfolding computed clamp outside
+computed-in z h k = simp (h, k)
 
 pub in-fits : (z : ℤ) → ltZ z least ≡ false → ltZ greatest z ≡ false → SFits w32 z
 in-fits (pos n) h k = record { sfits = omega (arith, ltb-false greatestNumber n k) }
@@ -125,10 +120,10 @@ wide-bits (pos (suc n)) f e = omega arith
 wide-bits (negsuc n) f e = omega arith
 
 -- the cases of `quotient`
-pub div-by-zero : (a b : ℤ) → isZero b ≡ true → pos 0 ≡ quotient a b
+pub div-by-zero : (a b : ℤ) → isZero b ≡ true → byZero ≡ quotient a b
 unfolding quotient
 div-by-zero a b e = simp e
 
-pub div-by : (a b : ℤ) → isZero b ≡ false → clamp (quotZ a b) ≡ quotient a b
+pub div-by : (a b : ℤ) → isZero b ≡ false → computed (quotZ a b) ≡ quotient a b
 unfolding quotient
 div-by a b e = simp e

@@ -19,7 +19,7 @@ use Rattle.model.specs.declared.{Ending.Ending, Answer.Answer, Answer.the-varia
 use Rattle.model.specs.declared.Ending.the-variants.{Stopped, LettersUsed}
 use Rattle.model.specs.declared.Call.the-variants.{Neither, Receives, Sends}
 use Rattle.model.specs.declared.Level.the-variants.{Low, High}
-use Rattle.model.proofs.{Line.bytes-length, Counted.Reached, Counted.reached-first, Counted.turn-reached, Turn.turn-clock}
+use Rattle.model.proofs.{Line.bytes-length, Counted.Reached, Counted.reached-first, Counted.turn-reached, Turn.turn-clock, Turn.Counter, Turn.clamped}
 use Rattle.run_message.specs.Message.{Cleared}
 use Rattle.run_message.proofs.Laws.{cleared-held}
 use Rattle.run_verdict.specs.Verdict.{CountsFit, countsAs}
@@ -112,7 +112,7 @@ module _ {j : StoredJob} (ok : Ready j) where
     pub record Small : Type 0 where
       pub positions : h .clock .positions ≤ letterCapacity
       pub steps : h .clock .steps ≤ letterCapacity
-      pub calls : (l : Level) → recordOf l h .calls ≤ h .clock .positions
+      pub counts : (q : Counter) (l : Level) → q .of (recordOf l h) ≤ h .clock .positions
       pub taken : h .taken ≤ messageCapacity
       pub bytes : h .bytes ≤ (10 + 12 * keyCapacity) * letterCapacity
       pub room : h .bytes ≤ length out
@@ -127,16 +127,27 @@ module _ {j : StoredJob} (ok : Ready j) where
         record {
           positions = at;
           steps = omega (arith, r .steps);
-          calls = λ l. omega (arith, r .calls l, ap (λ (p : Process). p .execution .calls) (process-is ok (k .sent) h l));
+          counts = λ q l. omega (arith, r .counts q l, ap (λ (p : Process). q .of (p .execution)) (process-is ok (k .sent) h l));
           taken = omega (arith, r .taken, lines-count ok, few ok .messages);
           bytes = subst (λ (n : ℕ). n ≤ (10 + 12 * keyCapacity) * letterCapacity) (sym (r .bytes)) (mul-le-mul line lines);
           room = omega (arith, room, same-length);
         }
 
-    pub counts-fit : CountsFit (h .clock) (h .bytes) (h .taken)
+    -- each fits a count of the code
+    pub counted-small : (q : Counter) (l : Level) → q .of (recordOf l h) < 4294967296
+    counted-small q l = let s = small in omega (arith, s .counts q l, s .positions)
+
+    pub counts-fit : CountsFit (h .clock) (h .bytes) (h .taken) (h .low .clamped)
+    unfolding clamped
     counts-fit =
         let s = small in
-        record { positions-fit = omega (arith, s .positions); steps-fit = omega (arith, s .steps); bytes-fit = omega (arith, s .bytes); taken-fit = omega (arith, s .taken) }
+        record {
+          positions-fit = omega (arith, s .positions);
+          steps-fit = omega (arith, s .steps);
+          bytes-fit = omega (arith, s .bytes);
+          taken-fit = omega (arith, s .taken);
+          clamped-fit = counted-small clamped Low;
+        }
 
     -- ---- What is found before a turn
 
@@ -144,8 +155,8 @@ module _ {j : StoredJob} (ok : Ready j) where
     found = foundBefore j (length out₀) (k .sent) h
 
     -- an ending
-    pub ends : (e : Ending) → found ≡ Ends e → (a : Answer) → a ≡ Ended e (countsAs (h .clock) (h .bytes) (h .taken)) → left a out ≡ leftBy out₀ (runJob (jobOf j) (length out₀))
-    unfolding ended stateOf memoryAfter
+    pub ends : (e : Ending) → found ≡ Ends e → (a : Answer) → a ≡ Ended e (countsAs (h .clock) (h .bytes) (h .taken) (h .low .clamped)) → left a out ≡ leftBy out₀ (runJob (jobOf j) (length out₀))
+    unfolding ended stateOf memoryAfter State.at
     ends e v a ea =
         ap₂ left ea (k .memory ∙ placed-front out₀ (bytesOf (k .sent)) (omega (arith, long, room)))
         ∙ ap (leftBy out₀) (sym (settled ks cs (length out₀) here (lettersLeft j h) e v) ∙ k .going)

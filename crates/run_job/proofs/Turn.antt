@@ -49,7 +49,7 @@ madeBefore j n bs = cond (ltb j n) (kindOf (getD bs j 0)) Neither
 -- after a call of the leader, of the kind that the byte b stands for, which changed of the record only the place and the count of calls
 abbrev pub calledBy : ℕ → Execution → Clock → Held → Held
 calledBy b next c h =
-    withClock c (withRecord Low (record { place = next .place; vars = h .low .vars; calls = next .calls }) (withKinds (set (h .kinds) (h .low .calls) b) h))
+    withClock c (withRecord Low (record { place = next .place; vars = h .low .vars; calls = next .calls; clamped = h .low .clamped }) (withKinds (set (h .kinds) (h .low .calls) b) h))
 
 module _ {j : StoredJob} (ok : Ready j) (sent : List Sent) (h : Held) where
   abbrev ks : List Key
@@ -196,8 +196,8 @@ module _ {j : StoredJob} (ok : Ready j) (sent : List Sent) (h : Held) where
   -- ---- The leader's calls
 
   -- the record of a call, of which the place and the count are stored
-  called-is : (next : Execution) → next ≡ calledOf (h .low) → record { place = next .place; vars = h .low .vars; calls = next .calls } ≡ calledOf (h .low)
-  called-is next e = ap (λ (y : Execution). record { place = y .place; vars = h .low .vars; calls = y .calls }) e
+  called-is : (next : Execution) → next ≡ calledOf (h .low) → record { place = next .place; vars = h .low .vars; calls = next .calls; clamped = h .low .clamped } ≡ calledOf (h .low)
+  called-is next e = ap (λ (y : Execution). record { place = y .place; vars = h .low .vars; calls = y .calls; clamped = h .low .clamped }) e
 
   module _ (live : h .low .place < j .«command_count») (inside : h .low .calls < length (h .kinds))
       (c : Clock) (ec : c ≡ ticked Low (h .clock)) (next : Execution) (enext : next ≡ calledOf (h .low)) where

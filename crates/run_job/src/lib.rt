@@ -53,7 +53,7 @@ pub fn run_job(job: StoredJob, out: &mut [u8]) -> Answer
     loop {
         let at = clock.positions;
         if job.turn_count <= at {
-            return ended(Ending::LettersUsed, clock, bytes, taken);
+            return ended(Ending::LettersUsed, clock, bytes, taken, low.clamped);
         }
         match level_of(job.turns[at]) {
             Level::Low => {
@@ -80,12 +80,12 @@ pub fn run_job(job: StoredJob, out: &mut [u8]) -> Answer
                         low.calls = next.calls;
                         clock = ticked(clock, Level::Low);
                         if count <= low.place {
-                            return ended(Ending::Stopped, clock, bytes, taken);
+                            return ended(Ending::Stopped, clock, bytes, taken, low.clamped);
                         }
                     }
                     Call::Sends => {
                         if out.len() - bytes < line_bytes {
-                            return ended(Ending::NoRoom, clock, bytes, taken);
+                            return ended(Ending::NoRoom, clock, bytes, taken, low.clamped);
                         }
                         heading(out, bytes, at);
                         let mut k: usize = 0;
@@ -104,7 +104,7 @@ pub fn run_job(job: StoredJob, out: &mut [u8]) -> Answer
                         low.calls = next.calls;
                         clock = ticked(clock, Level::Low);
                         if count <= low.place {
-                            return ended(Ending::Stopped, clock, bytes, taken);
+                            return ended(Ending::Stopped, clock, bytes, taken, low.clamped);
                         }
                     }
                     Call::Neither => {
@@ -118,11 +118,12 @@ pub fn run_job(job: StoredJob, out: &mut [u8]) -> Answer
                         low.vars[v] = holds(next, v);
                         low.place = next.place;
                         low.calls = next.calls;
+                        low.clamped = next.clamped;
                         let entry = r.entry;
                         message[k] = with(f, Level::Low, entry);
                         clock = ticked(clock, Level::Low);
                         if count <= low.place {
-                            return ended(Ending::Stopped, clock, bytes, taken);
+                            return ended(Ending::Stopped, clock, bytes, taken, low.clamped);
                         }
                     }
                 }
@@ -149,6 +150,7 @@ pub fn run_job(job: StoredJob, out: &mut [u8]) -> Answer
                         high.vars[v] = holds(next, v);
                         high.place = next.place;
                         high.calls = next.calls;
+                        high.clamped = next.clamped;
                         let entry = r.entry;
                         message[k] = with(f, Level::High, entry);
                         clock = ticked(clock, Level::High);

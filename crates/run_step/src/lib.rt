@@ -1,6 +1,7 @@
 // One command of one execution.
 use model::Call;
 use model::Command;
+use model::Computed;
 use model::Effect;
 use model::Entry;
 use model::Execution;
@@ -13,7 +14,7 @@ ghost use mathlib.Core.Path.{_≡_};
 ghost use mathlib.Core.Bool.{cond};
 ghost use Prim.Native.Nat.{_<_};
 ghost use lib.{IntN.pos, Signed.ltZ};
-ghost use Rattle.model.specs.{Limits.variables, Arith.isZero, Step.variable, Step.numberOf, Step.presence, Step.made as Effect·made, Step.effectOf, Step.callOf};
+ghost use Rattle.model.specs.{Limits.variables, Arith.isZero, Step.variable, Step.numberOf, Step.presence, Step.made as Effect·made, Step.computes as Effect·computes, Step.effectOf, Step.callOf};
 
 // A variable's or a key's number, as an index.
 pub fn index(x: u8) -> usize
@@ -64,6 +65,18 @@ fn made(place: usize, value: i32, entry: Entry) -> Effect
     Effect {
         place,
         value,
+        outside: false,
+        entry,
+    }
+}
+
+fn computes(place: usize, result: Computed, entry: Entry) -> Effect
+    ensures { λ r. ⌜ r ≡ Effect·computes place result entry ⌝ }
+{
+    Effect {
+        place,
+        value: result.value,
+        outside: result.outside,
         entry,
     }
 }
@@ -77,10 +90,10 @@ pub fn effect_at(c: Command, p: usize, a: i32, b: i32, e: Entry, end: usize) -> 
     let q = p + 1;
     match op {
         Op::Set => made(q, c.n, e),
-        Op::Add => made(q, add(a, b), e),
-        Op::Sub => made(q, sub(a, b), e),
-        Op::Mul => made(q, mul(a, b), e),
-        Op::Div => made(q, div(a, b), e),
+        Op::Add => computes(q, add(a, b), e),
+        Op::Sub => computes(q, sub(a, b), e),
+        Op::Mul => computes(q, mul(a, b), e),
+        Op::Div => computes(q, div(a, b), e),
         Op::Read => made(q, number_of(e), e),
         Op::Has => made(q, presence_of(e), e),
         Op::Put => made(q, a, Entry::Number(a)),

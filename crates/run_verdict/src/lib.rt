@@ -107,16 +107,17 @@ pub fn ticked(clock: Clock, level: Level) -> Clock
     }
 }
 
-// The answer of a run that ends so.
-pub fn ended(e: Ending, clock: Clock, bytes: usize, taken: usize) -> Answer
-    requires { ⌜ CountsFit clock bytes taken ⌝ }
-    ensures { λ r. ⌜ r ≡ Ended e (countsAs clock bytes taken) ⌝ }
+// The answer of a run that ends so, with the clamped results of the low execution.
+pub fn ended(e: Ending, clock: Clock, bytes: usize, taken: usize, clamped: usize) -> Answer
+    requires { ⌜ CountsFit clock bytes taken clamped ⌝ }
+    ensures { λ r. ⌜ r ≡ Ended e (countsAs clock bytes taken clamped) ⌝ }
 {
     let counts = Counts {
         positions: clock.positions as u32,
         steps: clock.steps as u32,
         bytes: bytes as u32,
         taken: taken as u32,
+        clamped: clamped as u32,
     };
     Answer::Ended(e, counts)
 }

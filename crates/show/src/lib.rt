@@ -9,7 +9,7 @@ ghost use mathlib.Core.Path.{_≡_};
 ghost use Rattle.model.specs.{Answer.left, Answer.runSheet, Written.written};
 ghost use Rattle.model_log.specs.Log.{writeLog};
 
-// Runs the sheet on the output memory, and prints the sent lines and then `end=` with the six numbers. The output memory is left as the run left it.
+// Runs the sheet on the output memory, and prints the sent lines and then `end=` with the seven numbers. The output memory is left as the run left it.
 pub fn run_and_print(sheet: &[u8], output: &mut [u8]) -> Answer
     ensures { λ r. ⌜ left r (now (output .exit)) ≡ runSheet (now (sheet .entry)) (now (output .entry)) ⌝ }
 {

@@ -59,7 +59,7 @@ fn print_numbers(fd: i32, name: &[u8], ns: &[u32]) {
     io::write_all(fd, b"\n");
 }
 
-// Prints the sent lines, and then `end=` with the six numbers.
+// Prints the sent lines, and then `end=` with the seven numbers.
 pub fn print_run(ns: [u32; NUMBERS], output: &[u8]) {
     print_front(output, ns[4]);
     print_numbers(STDOUT_FILENO, b"end=", &ns);

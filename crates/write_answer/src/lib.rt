@@ -19,13 +19,23 @@ fn ending_number(e: Ending) -> u32
     }
 }
 
-// The six numbers of a run's answer.
+// The seven numbers of a run's answer.
 pub fn numbers(a: Answer) -> [u32; NUMBERS]
     ensures { λ r. ⌜ r ≡ numbersOf a ⌝ }
 {
     match a {
-        Answer::Ended(e, c) => { [ending_number(e), 0, c.positions, c.steps, c.bytes, c.taken] }
-        Answer::Refused(n, l) => [n, l, 0, 0, 0, 0],
+        Answer::Ended(e, c) => {
+            [
+                ending_number(e),
+                0,
+                c.positions,
+                c.steps,
+                c.bytes,
+                c.taken,
+                c.clamped,
+            ]
+        }
+        Answer::Refused(n, l) => [n, l, 0, 0, 0, 0, 0],
     }
 }
 

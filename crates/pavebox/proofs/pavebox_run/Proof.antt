@@ -15,11 +15,11 @@ returns c =
     let a = c .before .before .before .before .args in
     leaves (entered-other numberCount (a .output .now) (a .answer .now) (answeredBy (runSheet (a .sheet .now) (a .output .now))) (c .if1 .taken)) refl refl refl
 
--- the six numbers are those of the run
-six : (c : tie.After-numbers) →
+-- the seven numbers are those of the run
+seven : (c : tie.After-numbers) →
     let a = c .before .before .before .before .before .before .before .before .before .args in
     c .numbers .result ≡ numbersOf (runSheet (a .sheet .now) (a .output .now) .answer)
-six c = c .numbers .ensures ∙ ap (λ (x : Left). numbersOf (x .answer)) (c .before .before .before .run-sheet .ensures)
+seven c = c .numbers .ensures ∙ ap (λ (x : Left). numbersOf (x .answer)) (c .before .before .before .run-sheet .ensures)
 
 returns-2 : tie.Need-returns-2
 unfolding runEntry
@@ -28,9 +28,9 @@ returns-2 c =
     let ns = put .before .before .before in
     let a = ns .before .before .before .before .before .before .before .before .before .args in
     leaves (entered-sized numberCount (a .output .now) (a .answer .now) (answeredBy (runSheet (a .sheet .now) (a .output .now))) (search needs))
-    (ap (λ (l : List ℕ). getD l 0 0) (six ns))
+    (ap (λ (l : List ℕ). getD l 0 0) (seven ns))
     (ap (λ (x : Left). x .memory) (ns .before .before .before .run-sheet .ensures))
-    (put .put-numbers .ensures ∙ ap allLe32 (six ns))
+    (put .put-numbers .ensures ∙ ap allLe32 (seven ns))
 
 pub pavebox-run-spec : {M : Type 1} → statement M
 pavebox-run-spec =

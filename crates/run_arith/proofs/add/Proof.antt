@@ -1,4 +1,4 @@
--- The law of an operation that is done at i64 and clamped, at `_+ℤ_`.
+-- The law of an operation that is done at i64 and then computed, at `_+ℤ_`.
 use borrow.Author.Needs.{needs}
 use lib.IntN.{_+ℤ_}
 use Rattle.model.specs.Arith.{sum}
@@ -15,4 +15,4 @@ add-spec =
     (λ c. widens (c .fits .b))
     (λ c. asked _+ℤ_ (c .fits .a) (c .fits .b) (add-fits (c .fits .a) (c .fits .b)))
     (λ c κs. search needs)
-    (λ c. let f = c .before .fits in answered _+ℤ_ (f .a) (f .b) (add-fits (f .a) (f .b)) (c .clamp .ok) (c .clamp .ensures)))
+    (λ c. let f = c .before .fits in answered _+ℤ_ (f .a) (f .b) (add-fits (f .a) (f .b)) (c .computed .ensures)))

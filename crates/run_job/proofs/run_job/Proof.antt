@@ -16,11 +16,12 @@ use Rattle.model.specs.declared.{Answer.the-variants.Ended}
 use Rattle.model.specs.declared.Ending.the-variants.{Stopped, NoRoom}
 use Rattle.model.specs.declared.Call.the-variants.{Receives, Sends}
 use Rattle.model.specs.declared.Level.the-variants.{Low, High}
+use Rattle.model.proofs.Turn.{calls, clamped}
 use Rattle.run_step.proofs.Laws.{changedBy}
 use Rattle.run_verdict.specs.Verdict.{countsAs}
 use Rattle.run_job.specs.{Held.Held, Held.recordOf, Held.withTaken, Held.withMessage, Held.withBytes, Turn.Turned}
 use Rattle.run_job.proofs.{Views.commandAt, Views.Ready, Views.few, Views.below-or-first, Views.operands-at, Loop.Kept, Loop.Inv, Loop.begins, Loop.Small}
-use Rattle.run_job.proofs.{Loop.small, Loop.same-length, Loop.counts-fit, Loop.ends}
+use Rattle.run_job.proofs.{Loop.small, Loop.same-length, Loop.counted-small, Loop.counts-fit, Loop.ends}
 use Rattle.run_job.proofs.{Loop.found-used, Loop.found-stopped, Loop.found-by, Loop.again, Loop.short-neither, Loop.short-receives, Loop.short-sends}
 use Rattle.run_job.proofs.{Turn.commanded, Turn.madeBefore, Turn.calledBy, Turn.receive-turn, Turn.send-turn, Turn.command-turn}
 use Rattle.run_job.proofs.{Turn.idle-turn, Turn.ends-idle, Turn.waits-here}
@@ -86,11 +87,12 @@ small-at c = small (ready c) (c .loop .inv .kept)
 ticks : (c : tie.At-loop Inv-loop2 μ-loop2 Inv-loop3 μ-loop3 Inv-loop μ-loop) → (c .loop .clock .positions < 4294967296) × (c .loop .clock .steps < 4294967296)
 ticks c = (omega (arith, small-at c .positions), omega (arith, small-at c .steps))
 
-small-calls : (c : tie.At-loop Inv-loop2 μ-loop2 Inv-loop3 μ-loop3 Inv-loop μ-loop) (l : Level) → recordOf l (heldAt c) .calls < 4294967296
-small-calls c l = omega (arith, small-at c .calls l, small-at c .positions)
+counts-small : (c : tie.At-loop Inv-loop2 μ-loop2 Inv-loop3 μ-loop3 Inv-loop μ-loop) (l : Level) → (recordOf l (heldAt c) .calls < 4294967296) × (recordOf l (heldAt c) .clamped < 4294967296)
+unfolding calls clamped
+counts-small c l = let small = counted-small (ready c) (c .loop .inv .kept) in (small calls l, small clamped l)
 
 calls-low : (c : tie.At-loop Inv-loop2 μ-loop2 Inv-loop3 μ-loop3 Inv-loop μ-loop) → (c .loop .low .place < 4294967296) × (c .loop .low .calls < 4294967296)
-calls-low c = (omega (arith, c .loop .inv .live, few (ready c) .commands), small-calls c Low)
+calls-low c = (omega (arith, c .loop .inv .live, few (ready c) .commands), counts-small c Low .0)
 
 -- ---- Whose turn it is
 
@@ -102,7 +104,8 @@ level-is c = sym (c .level-of .ensures)
 
 -- a call more has its place in the array of kinds
 kinds-inside : (c : tie.After-level-of Inv-loop2 μ-loop2 Inv-loop3 μ-loop3 Inv-loop μ-loop) (l : Level) → recordOf l (heldAt (loopOf c)) .calls < length (loopOf c .loop .kinds)
-kinds-inside c l = let at = loopOf c in omega (arith, small-at at .calls l, more c, few (ready at) .letters, at .loop .inv .noted)
+unfolding calls
+kinds-inside c l = let at = loopOf c in omega (arith, small-at at .counts calls l, more c, few (ready at) .letters, at .loop .inv .noted)
 
 -- a turn leaves fewer letters
 fewer : (c : tie.After-level-of Inv-loop2 μ-loop2 Inv-loop3 μ-loop3 Inv-loop μ-loop) (l : Level) (t : Clock) → t ≡ ticked l (loopOf c .loop .clock)
@@ -149,7 +152,7 @@ module _ (c : tie.After-enum-told Inv-loop2 μ-loop2 Inv-loop3 μ-loop3 Inv-loop
       again (ready l) (l .loop .inv .kept) (l .loop .inv .live) (more (lowLetter c)) Low (isLow c)
       (ap (λ (k : Call). short k (length (l .loop .out) - l .loop .bytes) (10 + 12 * jobOf l .keys)) call ∙ roomy) t
 
-  stops : {h : Held} {out : List ℕ} → Low-kept h out → jobOf l .«command_count» ≤ h .low .place → (a : Answer) → a ≡ Ended Stopped (countsAs (h .clock) (h .bytes) (h .taken))
+  stops : {h : Held} {out : List ℕ} → Low-kept h out → jobOf l .«command_count» ≤ h .low .place → (a : Answer) → a ≡ Ended Stopped (countsAs (h .clock) (h .bytes) (h .taken) (h .low .clamped))
       → left a out ≡ leftBy (callerOf l .args .out .now) (runJob (Stored.jobOf (jobOf l)) (length (callerOf l .args .out .now)))
   stops k end a ea = ends (ready l) k Stopped (found-stopped (ready l) k end) a ea
 
@@ -469,7 +472,7 @@ run-job-spec =
     (λ c. omega (arith, key-low c)) (λ c. omega (arith, key-low c)) (λ c κs. search needs) (λ c κs. search needs) (λ c κs. search needs)
     (λ c. omega (arith, v-low (c .before .before))) (λ c. omega (arith, v-low (c .before .before)))
     (λ c. omega (arith, w-low (c .before .before))) (λ c. omega (arith, w-low (c .before .before)))
-    (λ c κs. lowLoop (commandLow (operandsOf (c .before .before .before))) .loop .inv .live) (λ c κs. (v-low (effectLow c .before), small-calls (lowLoop (commandLow (operandsOf (effectLow c)))) Low))
+    (λ c κs. lowLoop (commandLow (operandsOf (c .before .before .before))) .loop .inv .live) (λ c κs. let s = counts-small (lowLoop (commandLow (operandsOf (effectLow c)))) Low in (v-low (effectLow c .before), s .0, s .1))
     (λ c κs. v-low (effectLow (c .before) .before))
     (λ c. omega (arith, v-low (effectLow (c .before .before) .before))) (λ c. omega (arith, v-low (effectLow (c .before .before) .before))) (λ c κs. search needs)
     (λ c. omega (arith, key-low (keyLow c))) (λ c. omega (arith, key-low (keyLow c))) (λ c κs. ticks (lowLoop (commandLow (keyLow c .before))))
@@ -487,7 +490,7 @@ run-job-spec =
     (λ c. omega (arith, v-high (c .before .before))) (λ c. omega (arith, v-high (c .before .before)))
     (λ c. omega (arith, w-high (c .before .before))) (λ c. omega (arith, w-high (c .before .before)))
     (λ c κs. high-live (goingOf (movesOf (c .before .before .before) .before)))
-    (λ c κs. (v-high (effectHigh c .before), small-calls (highLoop (highOf (goingOf (movesOf (effectHigh c) .before)))) High)) (λ c κs. v-high (effectHigh (c .before) .before))
+    (λ c κs. let s = counts-small (highLoop (highOf (goingOf (movesOf (effectHigh c) .before)))) High in (v-high (effectHigh c .before), s .0, s .1)) (λ c κs. v-high (effectHigh (c .before) .before))
     (λ c. omega (arith, v-high (effectHigh (c .before .before) .before))) (λ c. omega (arith, v-high (effectHigh (c .before .before) .before))) (λ c κs. search needs)
     (λ c. omega (arith, key-high (keyHigh c))) (λ c. omega (arith, key-high (keyHigh c))) (λ c κs. ticks (highLoop (highOf (goingOf (keyHigh c .before .before)))))
     (λ c. fewer (highLetter (highOf (goingOf (keyHigh (c .before) .before .before)))) High _ (c .ticked6 .ensures)) loop-again-6)

@@ -19,56 +19,56 @@ returns c = c .made .ensures ∙ simp (c .before .before .enum-told .given .1, t
 returns-2 : tie.Need-returns-2
 returns-2 c =
     let s = c .before .before .before .before in
-    c .made2 .ensures ∙ simp (c .before .before .enum-told2 .given .1, returned (c .before .add .ok) (c .before .add .ensures), a-is s, b-is s)
+    c .computes .ensures ∙ simp (c .before .before .enum-told2 .given .1, c .before .add .ensures, a-is s, b-is s)
 
 returns-3 : tie.Need-returns-3
 returns-3 c =
     let s = c .before .before .before .before in
-    c .made3 .ensures ∙ simp (c .before .before .enum-told3 .given .1, returned (c .before .sub .ok) (c .before .sub .ensures), a-is s, b-is s)
+    c .computes2 .ensures ∙ simp (c .before .before .enum-told3 .given .1, c .before .sub .ensures, a-is s, b-is s)
 
 returns-4 : tie.Need-returns-4
 returns-4 c =
     let s = c .before .before .before .before in
-    c .made4 .ensures ∙ simp (c .before .before .enum-told4 .given .1, returned (c .before .mul .ok) (c .before .mul .ensures), a-is s, b-is s)
+    c .computes3 .ensures ∙ simp (c .before .before .enum-told4 .given .1, c .before .mul .ensures, a-is s, b-is s)
 
 returns-5 : tie.Need-returns-5
 returns-5 c =
     let s = c .before .before .before .before in
-    c .made5 .ensures ∙ simp (c .before .before .enum-told5 .given .1, returned (c .before .div .ok) (c .before .div .ensures), a-is s, b-is s)
+    c .computes4 .ensures ∙ simp (c .before .before .enum-told5 .given .1, c .before .div .ensures, a-is s, b-is s)
 
 returns-6 : tie.Need-returns-6
-returns-6 c = c .made6 .ensures ∙ simp (c .before .before .enum-told6 .given .1, returned (c .before .number-of .ok) (c .before .number-of .ensures))
+returns-6 c = c .made2 .ensures ∙ simp (c .before .before .enum-told6 .given .1, returned (c .before .number-of .ok) (c .before .number-of .ensures))
 
 returns-7 : tie.Need-returns-7
-returns-7 c = c .made7 .ensures ∙ simp (c .before .before .enum-told7 .given .1, returned (c .before .presence-of .ok) (c .before .presence-of .ensures))
+returns-7 c = c .made3 .ensures ∙ simp (c .before .before .enum-told7 .given .1, returned (c .before .presence-of .ok) (c .before .presence-of .ensures))
 
 returns-8 : tie.Need-returns-8
-returns-8 c = c .made8 .ensures ∙ simp (c .before .enum-told8 .given .1, a-is (c .before .before .before))
+returns-8 c = c .made4 .ensures ∙ simp (c .before .enum-told8 .given .1, a-is (c .before .before .before))
 
 returns-9 : tie.Need-returns-9
-returns-9 c = c .made9 .ensures ∙ simp (c .before .enum-told9 .given .1, a-is (c .before .before .before))
+returns-9 c = c .made5 .ensures ∙ simp (c .before .enum-told9 .given .1, a-is (c .before .before .before))
 
 returns-10 : tie.Need-returns-10
 returns-10 c =
     let told = c .before .before .before in
-    c .made10 .ensures ∙ simp (told .enum-told10 .given .1, a-is (told .before .before), c .before .if-neg .ensures, c .before .before .target .ensures)
+    c .made6 .ensures ∙ simp (told .enum-told10 .given .1, a-is (told .before .before), c .before .if-neg .ensures, c .before .before .target .ensures)
 
 returns-11 : tie.Need-returns-11
 returns-11 c =
     let told = c .before .before .before in
-    c .made11 .ensures ∙ simp (told .enum-told11 .given .1, a-is (told .before .before), c .before .if-zero .ensures, c .before .before .target2 .ensures)
+    c .made7 .ensures ∙ simp (told .enum-told11 .given .1, a-is (told .before .before), c .before .if-zero .ensures, c .before .before .target2 .ensures)
 
 returns-12 : tie.Need-returns-12
-returns-12 c = c .made12 .ensures ∙ simp (c .before .before .enum-told12 .given .1, a-is (c .before .before .before .before), c .before .target3 .ensures)
+returns-12 c = c .made8 .ensures ∙ simp (c .before .before .enum-told12 .given .1, a-is (c .before .before .before .before), c .before .target3 .ensures)
 
 returns-13 : tie.Need-returns-13
-returns-13 c = c .made13 .ensures ∙ simp (c .before .enum-told13 .given .1, a-is (c .before .before .before))
+returns-13 c = c .made9 .ensures ∙ simp (c .before .enum-told13 .given .1, a-is (c .before .before .before))
 
 returns-14 : tie.Need-returns-14
-returns-14 c = c .made14 .ensures ∙ simp (c .before .enum-told14 .given .1, a-is (c .before .before .before))
+returns-14 c = c .made10 .ensures ∙ simp (c .before .enum-told14 .given .1, a-is (c .before .before .before))
 
 returns-15 : tie.Need-returns-15
-returns-15 c = c .made15 .ensures ∙ simp (c .before .enum-told15 .given .1, a-is (c .before .before .before))
+returns-15 c = c .made11 .ensures ∙ simp (c .before .enum-told15 .given .1, a-is (c .before .before .before))
 
 pub effect-at-spec : {M : Type 1} → statement M
 effect-at-spec =

@@ -11,7 +11,7 @@ returns : tie.Need-returns
 unfolding numbersOf
 returns c =
     let x = c .before .before .a .given .0 .1 .0 in
-    ap (λ (n : ℕ). n ∷ 0 ∷ x .positions ∷ x .steps ∷ x .bytes ∷ x .taken ∷ []) (c .ending-number .ensures) ∙ sym (ap numbersOf (c .before .before .a .given .1))
+    ap (λ (n : ℕ). n ∷ 0 ∷ x .positions ∷ x .steps ∷ x .bytes ∷ x .taken ∷ x .clamped ∷ []) (c .ending-number .ensures) ∙ sym (ap numbersOf (c .before .before .a .given .1))
 
 returns-2 : tie.Need-returns-2
 unfolding numbersOf
