@@ -13,7 +13,7 @@ extern "C" {
 #endif
 
 /* The answer memory has exactly this many bytes. */
-#define PAVEBOX_ANSWER_BYTES 24u
+#define PAVEBOX_ANSWER_BYTES 28u
 
 /* A longer sheet is refused. A host that reads one byte more can tell that a sheet is longer. */
 #define PAVEBOX_MOST_SHEET_BYTES 16384u
@@ -37,7 +37,7 @@ extern "C" {
 #define PAVEBOX_BAD_TARGET 7u     /* a target that exceeds the count of commands */
 #define PAVEBOX_TOO_MANY 8u       /* a 65th command, a 33rd message, a 1,025th byte of turns */
 #define PAVEBOX_BAD_TURNS 9u      /* no turn, or a letter other than L and H */
-#define PAVEBOX_BAD_ANSWER 10u    /* the answer memory is not exactly 24 bytes */
+#define PAVEBOX_BAD_ANSWER 10u    /* the answer memory is not exactly 28 bytes */
 
 /*
  * Reads the sheet and runs it to its ending.
@@ -45,10 +45,10 @@ extern "C" {
  * sheet, sheet_len    the sheet's bytes, which are only read. Any bytes will do.
  * output, output_len  the output memory. The sent lines go to its start, one after the other;
  *                     behind them, and everywhere if the sheet is refused, it keeps its bytes.
- * answer, answer_len  the answer memory: 24 bytes for the six numbers, see pavebox_read_answer.
+ * answer, answer_len  the answer memory: 28 bytes for the seven numbers, see pavebox_read_answer.
  *
- * Returns the ending or the refusal, which is also the first of the six numbers. If answer_len is
- * not 24 it returns PAVEBOX_BAD_ANSWER and writes nothing.
+ * Returns the ending or the refusal, which is also the first of the seven numbers. If answer_len
+ * is not 28 it returns PAVEBOX_BAD_ANSWER and writes nothing.
  *
  * Each pointer is to that many bytes; with a length of 0 it may be NULL. The three ranges do not
  * overlap. Both are the caller's duty. Alignment does not matter.
@@ -57,7 +57,7 @@ uint32_t pavebox_run(const uint8_t *sheet, size_t sheet_len,
                      uint8_t *output, size_t output_len,
                      uint8_t *answer, size_t answer_len);
 
-/* The six numbers of an answer. After a refusal the last four are 0. */
+/* The seven numbers of an answer. After a refusal the last five are 0. */
 struct pavebox_answer {
     uint32_t ending;    /* an ending or a refusal, as above */
     uint32_t line;      /* the line that is refused, from 1; 0 if there is none */
@@ -65,6 +65,7 @@ struct pavebox_answer {
     uint32_t low_steps; /* letters L among them */
     uint32_t written;   /* bytes of sent lines at the start of the output memory */
     uint32_t taken;     /* message lines taken */
+    uint32_t clamped;   /* clamped results of the low execution */
 };
 
 /* One number from four bytes, low byte first. */
@@ -74,7 +75,7 @@ static inline uint32_t pavebox_read_number(const uint8_t *bytes)
            | (uint32_t)bytes[3] << 24;
 }
 
-/* The six numbers from the 24 bytes that pavebox_run has filled. */
+/* The seven numbers from the 28 bytes that pavebox_run has filled. */
 static inline struct pavebox_answer pavebox_read_answer(const uint8_t *answer)
 {
     struct pavebox_answer numbers;
@@ -84,6 +85,7 @@ static inline struct pavebox_answer pavebox_read_answer(const uint8_t *answer)
     numbers.low_steps = pavebox_read_number(answer + 12);
     numbers.written = pavebox_read_number(answer + 16);
     numbers.taken = pavebox_read_number(answer + 20);
+    numbers.clamped = pavebox_read_number(answer + 24);
     return numbers;
 }
 

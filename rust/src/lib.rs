@@ -21,7 +21,7 @@
 //! ```
 
 /// The bytes of an answer.
-pub const ANSWER_BYTES: usize = 24;
+pub const ANSWER_BYTES: usize = 28;
 /// The ending of a run whose low execution has stopped.
 pub const STOPPED: u32 = 0;
 /// The ending of a run that has used all letters.
@@ -74,7 +74,7 @@ mod archive {
     }
 }
 
-/// The six numbers of a run. After a refusal the last four are 0.
+/// The seven numbers of a run. After a refusal the last five are 0.
 #[derive(Debug, Clone, Copy, PartialEq, Eq)]
 pub struct Answer {
     /// 0, 31 or 32 if the sheet ran, else the refusal from 1 to 9.
@@ -89,10 +89,13 @@ pub struct Answer {
     pub written: u32,
     /// Message lines taken.
     pub taken: u32,
+    /// Results of `add`, `sub`, `mul` and `div` in the low execution that were clamped, because the
+    /// exact one lay outside the range.
+    pub clamped: u32,
 }
 
 impl Answer {
-    /// The six numbers out of an answer memory, where each has 32 bits, low byte first.
+    /// The seven numbers out of an answer memory, where each has 32 bits, low byte first.
     pub fn from_bytes(bytes: &[u8; ANSWER_BYTES]) -> Answer {
         Answer {
             ending: number(bytes, 0),
@@ -101,11 +104,12 @@ impl Answer {
             low_steps: number(bytes, 3),
             written: number(bytes, 4),
             taken: number(bytes, 5),
+            clamped: number(bytes, 6),
         }
     }
 
-    /// The six numbers in their order.
-    pub fn numbers(&self) -> [u32; 6] {
+    /// The seven numbers in their order.
+    pub fn numbers(&self) -> [u32; 7] {
         [
             self.ending,
             self.line,
@@ -113,6 +117,7 @@ impl Answer {
             self.low_steps,
             self.written,
             self.taken,
+            self.clamped,
         ]
     }
 }
@@ -159,8 +164,8 @@ pub fn run(sheet: &[u8], output: &mut [u8]) -> Answer {
     Answer::from_bytes(&answer)
 }
 
-/// The entry as a C program has it. It fills `answer` and returns the first of the six numbers; if
-/// `answer` is not exactly [`ANSWER_BYTES`] long it returns [`BAD_ANSWER`] and writes nothing.
+/// The entry as a C program has it. It fills `answer` and returns the first of the seven numbers;
+/// if `answer` is not exactly [`ANSWER_BYTES`] long it returns [`BAD_ANSWER`] and writes nothing.
 pub fn entry(sheet: &[u8], output: &mut [u8], answer: &mut [u8]) -> u32 {
     call(archive::pavebox_run, sheet, output, answer)
 }
@@ -209,7 +214,7 @@ mod tests {
     fn lines_stand_at_the_start_of_the_output() {
         let mut output = [b'~'; 25];
         let answer = run(SHEET, &mut output);
-        assert_eq!(answer.numbers(), [LETTERS_USED, 0, 7, 4, 22, 1]);
+        assert_eq!(answer.numbers(), [LETTERS_USED, 0, 7, 4, 22, 1, 0]);
         assert_eq!(&output, b"sent=0002 +0000000007\n~~~");
     }
 
@@ -223,6 +228,7 @@ mod tests {
             low_steps: 0x0f_0e_0d_0c,
             written: 0x13_12_11_10,
             taken: 0x17_16_15_14,
+            clamped: 0x1b_1a_19_18,
         };
         assert_eq!(Answer::from_bytes(&bytes), answer);
         let bytes_again = answer.numbers().map(u32::to_le_bytes).concat();
@@ -231,16 +237,34 @@ mod tests {
 
     #[test]
     fn empty_memories_are_lawful() {
-        assert_eq!(run(SHEET, &mut []).numbers(), [NO_ROOM, 0, 2, 1, 0, 1]);
-        assert_eq!(run(&[], &mut []).numbers(), [2, 1, 0, 0, 0, 0]);
+        assert_eq!(run(SHEET, &mut []).numbers(), [NO_ROOM, 0, 2, 1, 0, 1, 0]);
+        assert_eq!(run(&[], &mut []).numbers(), [2, 1, 0, 0, 0, 0, 0]);
         assert_eq!(entry(&[], &mut [], &mut []), BAD_ANSWER);
     }
 
     #[test]
     fn an_answer_memory_of_another_length_stays_as_it_is() {
-        let (mut output, mut answer) = ([b'~'; 25], [b'~'; 25]);
-        assert_eq!(entry(SHEET, &mut output, &mut answer), BAD_ANSWER);
-        assert_eq!((output, answer), ([b'~'; 25], [b'~'; 25]));
+        // 24 bytes had room for the numbers before the count of clamped results was one of them.
+        for length in [24, 27, 29, 32] {
+            let (mut output, mut answer) = ([b'~'; 25], vec![b'~'; length]);
+            assert_eq!(entry(SHEET, &mut output, &mut answer), BAD_ANSWER);
+            assert_eq!((output, answer), ([b'~'; 25], vec![b'~'; length]));
+        }
+    }
+
+    #[test]
+    fn clamped_results_of_the_low_execution_are_counted() {
+        // The greatest number plus itself, minus itself twice, and by 0: only the first is clamped.
+        let low = b"sheet=1\nkeys=1\ndo=set 0 2147483647\ndo=set 1 2147483647\ndo=add 0 1\n\
+            do=sub 0 1\ndo=sub 0 1\ndo=div 0 2\nturns=LLLLLL\n";
+        assert_eq!(run(low, &mut []).numbers(), [STOPPED, 0, 6, 6, 0, 0, 1]);
+        // The high execution doubles the greatest number, the low one its dummy 0.
+        let high = b"sheet=1\nkeys=1\nsecret=0:0\ndo=receive\ndo=read 0 0\ndo=add 0 0\n\
+            do=put 0 0\ndo=send\nmsg=0:2147483647\nturns=LHLHLHLHL\n";
+        let mut output = [b'~'; 22];
+        let answer = run(high, &mut output);
+        assert_eq!(answer.numbers(), [STOPPED, 0, 9, 5, 22, 1, 0]);
+        assert_eq!(&output, b"sent=0008 +2147483647\n");
     }
 
     /// Two messages, the second without its first entry.
@@ -291,7 +315,7 @@ mod tests {
         let mut output = [b'~'; 164];
         assert_eq!(
             run(&sheet, &mut output).numbers(),
-            [LETTERS_USED, 0, 5, 5, 164, 2]
+            [LETTERS_USED, 0, 5, 5, 164, 2, 0]
         );
         let sent: &[u8] = b"\
             sent=0001 ........... ........... -0000000040 ........... ........... +0000000007\n\
