@@ -1,6 +1,6 @@
 /*
  * The cabinet's program: runs the sheet in the file that its command line names, and prints the
- * sent lines and then the six numbers in words.
+ * sent lines and then the seven numbers in words.
  *
  * Exit status: 0 if the sheet ran, 1 if it was refused, 2 if it could not be read or printed.
  */
@@ -31,7 +31,7 @@ static const char *words(uint32_t ending)
     case PAVEBOX_BAD_TARGET: return "a target exceeds the count of commands";
     case PAVEBOX_TOO_MANY: return "too many commands, messages or letters";
     case PAVEBOX_BAD_TURNS: return "no turns, or a letter other than L and H";
-    default: return "the answer memory is not 24 bytes";
+    default: return "the answer memory is not 28 bytes";
     }
 }
 
@@ -63,6 +63,7 @@ static void print_numbers(const struct pavebox_answer *numbers)
     printf("low steps %lu\n", (unsigned long)numbers->low_steps);
     printf("bytes written %lu\n", (unsigned long)numbers->written);
     printf("messages taken %lu\n", (unsigned long)numbers->taken);
+    printf("clamped results %lu\n", (unsigned long)numbers->clamped);
 }
 
 int main(int count, char **arguments)

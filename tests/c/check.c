@@ -95,27 +95,58 @@ void check_call(const struct entry *entry, const char *name, const void *input, 
     free(answer);
 }
 
-void check_answer_lengths(const struct entry *entry, const char *input, const size_t *lengths,
-                          size_t count)
+void check_guards(const struct entry *entry, const char *input, size_t lent,
+                  struct wanted wanted)
+{
+    const size_t length = strlen(wanted.text), answer_len = 4 * entry->numbers, guard = 13;
+    uint8_t *output = memory(guard + lent + guard);
+    uint8_t *answer = memory(guard + answer_len + guard);
+    const uint32_t returned = entry->call((const uint8_t *)input, strlen(input), output + guard,
+                                          lent, answer + guard, answer_len);
+    check(returned == wanted.numbers[0], "guards", "return");
+    check_answer(entry, "guards", answer + guard, wanted.numbers);
+    check(same(output + guard, wanted.text, length), "guards", "written lines");
+    check(is_filled(output, guard), "guards", "bytes before the output memory");
+    check(is_filled(output + guard + length, lent - length + guard), "guards",
+          "bytes behind the lines and behind the output memory");
+    check(is_filled(answer, guard), "guards", "bytes before the answer memory");
+    check(is_filled(answer + guard + answer_len, guard), "guards",
+          "bytes behind the answer memory");
+    free(output);
+    free(answer);
+}
+
+/* Refusal 10 for an answer memory of this length, at the start of one that has `there` bytes. */
+static void check_refused_answer(const struct entry *entry, const char *input, size_t length,
+                                 size_t there)
 {
     const size_t input_len = strlen(input), lent = 100;
-    size_t place;
-    for (place = 0; place < count; place++) {
-        const size_t length = lengths[place];
-        uint8_t *lent_input = copy(input, input_len);
-        uint8_t *output = memory(lent);
-        uint8_t *answer = memory(length);
-        char name[32];
-        snprintf(name, sizeof name, "answer of %lu bytes", (unsigned long)length);
-        check(entry->call(lent_input, input_len, output, lent, answer, length)
-                  == PAVEBOX_BAD_ANSWER,
-              name, "return");
-        check(is_filled(output, lent), name, "output memory");
-        check(is_filled(answer, length), name, "answer memory");
-        free(lent_input);
-        free(output);
-        free(answer);
-    }
+    uint8_t *lent_input = copy(input, input_len);
+    uint8_t *output = memory(lent);
+    uint8_t *answer = memory(there);
+    char name[48];
+    snprintf(name, sizeof name, "answer of %lu bytes of %lu", (unsigned long)length,
+             (unsigned long)there);
+    check(entry->call(lent_input, input_len, output, lent, answer, length) == PAVEBOX_BAD_ANSWER,
+          name, "return");
+    check(is_filled(output, lent), name, "output memory");
+    check(is_filled(answer, there), name, "answer memory");
+    free(lent_input);
+    free(output);
+    free(answer);
+}
+
+void check_answer_lengths(const struct entry *entry, const char *input)
+{
+    size_t length;
+    for (length = 0; length <= 64; length++)
+        if (length != 4 * entry->numbers)
+            check_refused_answer(entry, input, length, length);
+}
+
+void check_short_answer(const struct entry *entry, const char *input, size_t length)
+{
+    check_refused_answer(entry, input, length, 4 * entry->numbers);
 }
 
 void check_nulls(const struct entry *entry, const char *input, struct wanted empty,

@@ -11,7 +11,7 @@
 #define FILL 0xaa
 
 /* The most numbers that an answer has. */
-#define MOST_NUMBERS 6
+#define MOST_NUMBERS 7
 
 #define COUNT(list) (sizeof(list) / sizeof(list)[0])
 
@@ -44,9 +44,17 @@ uint8_t *memory(size_t length);
 void check_call(const struct entry *entry, const char *name, const void *input, size_t input_len,
                 size_t lent, struct wanted wanted);
 
-/* Refusal 10, before anything else, with nothing written. */
-void check_answer_lengths(const struct entry *entry, const char *input, const size_t *lengths,
-                          size_t count);
+/* The same call with the output memory and the answer memory in the middle of larger ones, whose
+ * other bytes stay as they are. */
+void check_guards(const struct entry *entry, const char *input, size_t lent,
+                  struct wanted wanted);
+
+/* Refusal 10, before anything else, with nothing written, for answer memories of every length up to
+ * 64 bytes but the right one. */
+void check_answer_lengths(const struct entry *entry, const char *input);
+
+/* The same for this one length, at the start of an answer memory that would be long enough. */
+void check_short_answer(const struct entry *entry, const char *input, size_t length);
 
 /* NULL with length 0, for each of the three memories and for all: what nothing to be read gives,
  * and what an input that is to write something gives without output memory. */

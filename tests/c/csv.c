@@ -21,11 +21,11 @@ static void check_read(const char *name, const uint8_t *answer, const uint32_t *
 
 static const struct entry entry = {pavebox_csv, PAVEBOX_CSV_ANSWER_BYTES / 4, check_read};
 
-#define REFUSED(number, row) ((struct wanted){"", {number, row, 0, 0, 0, 0}})
+#define REFUSED(number, row) ((struct wanted){"", {number, row, 0, 0, 0, 0, 0}})
 
 static struct wanted written(const char *lines)
 {
-    struct wanted wanted = {lines, {PAVEBOX_WRITTEN, 0, 0, 0, 0, 0}};
+    struct wanted wanted = {lines, {PAVEBOX_WRITTEN, 0, 0, 0, 0, 0, 0}};
     wanted.numbers[2] = (uint32_t)strlen(lines);
     return wanted;
 }
@@ -152,14 +152,14 @@ static void check_long_exports(void)
 
 void check_csv(void)
 {
-    static const size_t wrong_lengths[] = {0, 1, 4, 8, 11, 13, 16, 24};
     begin("pavebox_csv");
     check_output_lengths();
     check_export_lengths();
     check_refusals();
     check_fullest_export();
     check_long_exports();
-    check_answer_lengths(&entry, EXPORT, wrong_lengths, COUNT(wrong_lengths));
+    check_guards(&entry, EXPORT, 30, written(LINES));
+    check_answer_lengths(&entry, EXPORT);
     check_nulls(&entry, EXPORT, REFUSED(PAVEBOX_BAD_ROW, 1),
                 REFUSED(PAVEBOX_NO_ROOM_FOR_LINES, 0));
 }

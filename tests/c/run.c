@@ -13,6 +13,9 @@
     "msg=0:5,1:-6\nturns=LHLLL\n"
 #define SENT "sent=0004 +0000000012 -0000000006\n"
 
+/* The bytes of an answer of a host from before the seventh number. */
+#define SIX_NUMBERS 24
+
 static void check_read(const char *name, const uint8_t *answer, const uint32_t *numbers)
 {
     const struct pavebox_answer found = pavebox_read_answer(answer);
@@ -22,6 +25,7 @@ static void check_read(const char *name, const uint8_t *answer, const uint32_t *
     check(found.low_steps == numbers[3], name, "low steps");
     check(found.written == numbers[4], name, "bytes written");
     check(found.taken == numbers[5], name, "messages taken");
+    check(found.clamped == numbers[6], name, "clamped results");
 }
 
 static const struct entry entry = {pavebox_run, PAVEBOX_ANSWER_BYTES / 4, check_read};
@@ -37,7 +41,7 @@ static void run_text(const char *name, const char *sheet, size_t lent, struct wa
     run(name, sheet, strlen(sheet), lent, wanted);
 }
 
-#define WANTED(sent, a, b, c, d, e, f) ((struct wanted){sent, {a, b, c, d, e, f}})
+#define WANTED(sent, a, b, c, d, e, f, g) ((struct wanted){sent, {a, b, c, d, e, f, g}})
 
 /* Output memories with no room for the line, with just enough, and with more. */
 static void check_output_lengths(void)
@@ -48,8 +52,8 @@ static void check_output_lengths(void)
         char name[32];
         snprintf(name, sizeof name, "%lu bytes lent", (unsigned long)lengths[place]);
         run_text(name, SHEET, lengths[place],
-                 lengths[place] < 34 ? WANTED("", 32, 0, 4, 3, 0, 1)
-                                     : WANTED(SENT, 0, 0, 5, 4, 34, 1));
+                 lengths[place] < 34 ? WANTED("", 32, 0, 4, 3, 0, 1, 0)
+                                     : WANTED(SENT, 0, 0, 5, 4, 34, 1, 0));
     }
 }
 
@@ -66,7 +70,7 @@ static void check_sheet_lengths(void)
         line += (uint32_t)after_line;
         snprintf(name, sizeof name, "the first %lu bytes", (unsigned long)length);
         run(name, SHEET, length, LENT,
-            WANTED("", after_line ? PAVEBOX_BAD_NAME : PAVEBOX_BAD_BYTE, line, 0, 0, 0, 0));
+            WANTED("", after_line ? PAVEBOX_BAD_NAME : PAVEBOX_BAD_BYTE, line, 0, 0, 0, 0, 0));
     }
 }
 
@@ -74,13 +78,13 @@ static void check_sheet_lengths(void)
 static void check_refusals(void)
 {
 #define HEAD "sheet=1\nkeys=1\n"
-    run_text("2 at the end", HEAD "do=stop\nturns=L\n\177", LENT, WANTED("", 2, 5, 0, 0, 0, 0));
-    run_text("3 at the end", HEAD "do=stop\nturns=L\n\n", LENT, WANTED("", 3, 5, 0, 0, 0, 0));
-    run_text("4 at the end", HEAD "do=drop \n", LENT, WANTED("", 4, 3, 0, 0, 0, 0));
-    run_text("5 at the end", HEAD "do=stop\nmsg=0:1,0:\n", LENT, WANTED("", 5, 4, 0, 0, 0, 0));
-    run_text("6 at the end", HEAD "do=stop \n", LENT, WANTED("", 6, 3, 0, 0, 0, 0));
-    run_text("7 at the end", HEAD "do=jump 2\nturns=L\n", LENT, WANTED("", 7, 3, 0, 0, 0, 0));
-    run_text("9 at the end", HEAD "do=stop\nturns=\n", LENT, WANTED("", 9, 4, 0, 0, 0, 0));
+    run_text("2 at the end", HEAD "do=stop\nturns=L\n\177", LENT, WANTED("", 2, 5, 0, 0, 0, 0, 0));
+    run_text("3 at the end", HEAD "do=stop\nturns=L\n\n", LENT, WANTED("", 3, 5, 0, 0, 0, 0, 0));
+    run_text("4 at the end", HEAD "do=drop \n", LENT, WANTED("", 4, 3, 0, 0, 0, 0, 0));
+    run_text("5 at the end", HEAD "do=stop\nmsg=0:1,0:\n", LENT, WANTED("", 5, 4, 0, 0, 0, 0, 0));
+    run_text("6 at the end", HEAD "do=stop \n", LENT, WANTED("", 6, 3, 0, 0, 0, 0, 0));
+    run_text("7 at the end", HEAD "do=jump 2\nturns=L\n", LENT, WANTED("", 7, 3, 0, 0, 0, 0, 0));
+    run_text("9 at the end", HEAD "do=stop\nturns=\n", LENT, WANTED("", 9, 4, 0, 0, 0, 0, 0));
 #undef HEAD
 }
 
@@ -90,10 +94,10 @@ static void check_long_sheets(void)
     const size_t most = PAVEBOX_MOST_SHEET_BYTES;
     uint8_t *feeds = memory(most + 1);
     memset(feeds, '\n', most + 1);
-    run("16,384 bytes", feeds, most, LENT, WANTED("", 3, 1, 0, 0, 0, 0));
-    run("16,385 bytes", feeds, most + 1, LENT, WANTED("", 1, 0, 0, 0, 0, 0));
+    run("16,384 bytes", feeds, most, LENT, WANTED("", 3, 1, 0, 0, 0, 0, 0));
+    run("16,385 bytes", feeds, most + 1, LENT, WANTED("", 1, 0, 0, 0, 0, 0, 0));
     memset(feeds, 'x', most);
-    run("16,384 bytes without line feed", feeds, most, LENT, WANTED("", 2, 1, 0, 0, 0, 0));
+    run("16,384 bytes without line feed", feeds, most, LENT, WANTED("", 2, 1, 0, 0, 0, 0, 0));
     free(feeds);
 }
 
@@ -143,27 +147,61 @@ static void check_fullest_sheet(void)
     const uint32_t written = 321 * 106;
     write_its_lines(sent);
     run("the fullest sheet", sheet, length, written,
-        WANTED(sent, 31, 0, 1024, 1024, written, 32));
+        WANTED(sent, 31, 0, 1024, 1024, written, 32, 0));
     run("the fullest sheet and much memory", sheet, length, PAVEBOX_MOST_OUTPUT_BYTES,
-        WANTED(sent, 31, 0, 1024, 1024, written, 32));
+        WANTED(sent, 31, 0, 1024, 1024, written, 32, 0));
     sent[written - 106] = '\0';
     run("the fullest sheet and a byte too little", sheet, length, written - 1,
-        WANTED(sent, 32, 0, 1022, 1022, written - 106, 32));
+        WANTED(sent, 32, 0, 1022, 1022, written - 106, 32, 0));
     sheet[length - 1] = 'L';
     sheet[length++] = '\n';
     run("the fullest sheet and a letter too many", sheet, length, LENT,
-        WANTED("", 8, 107, 0, 0, 0, 0));
+        WANTED("", 8, 107, 0, 0, 0, 0, 0));
+}
+
+/* The seventh number, with each ending and with a refusal, and where it needs two bytes. */
+static void check_clamped(void)
+{
+#define HEAD "sheet=1\nkeys=1\nsecret=0:0\n"
+#define SUM "do=set 0 2147483647\ndo=add 0 0\ndo=put 0 0\ndo=send\n"
+    static char sheet[PAVEBOX_MOST_SHEET_BYTES];
+    char *next = sheet;
+    unsigned place;
+    run_text("a clamped sum", HEAD SUM "turns=LHLHLHL\n", LENT,
+             WANTED("sent=0006 +2147483647\n", 0, 0, 7, 4, 22, 0, 1));
+    run_text("a clamped sum and no room", HEAD SUM "turns=LHLHLHL\n", 21,
+             WANTED("", 32, 0, 6, 3, 0, 0, 1));
+    run_text("a clamped sum and no letter", HEAD SUM "turns=LHLHH\n", LENT,
+             WANTED("", 31, 0, 5, 2, 0, 0, 1));
+    run_text("a clamped sum and a bad letter", HEAD SUM "turns=LHLHLHLX\n", LENT,
+             WANTED("", 9, 8, 0, 0, 0, 0, 0));
+    run_text("a sum that is clamped in the high execution alone",
+             HEAD "do=receive\ndo=read 0 0\ndo=add 0 0\ndo=put 0 0\ndo=send\n"
+                  "msg=0:2147483647\nturns=LHLHLHLHL\n",
+             LENT, WANTED("sent=0008 +2147483647\n", 0, 0, 9, 5, 22, 1, 0));
+    next += sprintf(next, "%sdo=set 0 -2147483648\n", HEAD);
+    for (place = 0; place < 62; place++)
+        next += sprintf(next, "do=mul 0 0\n");
+    next += sprintf(next, "do=jump 1\nturns=");
+    for (place = 0; place < 1024; place++)
+        *next++ = 'L';
+    strcpy(next, "\n");
+    run_text("1,007 clamped products", sheet, LENT, WANTED("", 31, 0, 1024, 1024, 0, 0, 1007));
+#undef SUM
+#undef HEAD
 }
 
 void check_run(void)
 {
-    static const size_t wrong_lengths[] = {0, 1, 4, 20, 23, 25, 28, 48};
     begin("pavebox_run");
     check_output_lengths();
     check_sheet_lengths();
     check_refusals();
     check_long_sheets();
     check_fullest_sheet();
-    check_answer_lengths(&entry, SHEET, wrong_lengths, COUNT(wrong_lengths));
-    check_nulls(&entry, SHEET, WANTED("", 2, 1, 0, 0, 0, 0), WANTED("", 32, 0, 4, 3, 0, 1));
+    check_clamped();
+    check_guards(&entry, SHEET, 40, WANTED(SENT, 0, 0, 5, 4, 34, 1, 0));
+    check_answer_lengths(&entry, SHEET);
+    check_short_answer(&entry, SHEET, SIX_NUMBERS);
+    check_nulls(&entry, SHEET, WANTED("", 2, 1, 0, 0, 0, 0, 0), WANTED("", 32, 0, 4, 3, 0, 1, 0));
 }
