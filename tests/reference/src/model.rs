@@ -1,5 +1,5 @@
 //! The reference model of document 01, in the order of its text, with the rule of document 02's
-//! Note 2 for the calls of the high execution.
+//! Note 2 for the calls of the high execution and the seventh number of its Note 3.
 //!
 //! Words between quotation marks are the documents' own. A comment that begins with "Reading:"
 //! names the reading taken where the text leaves a choice, or seems to leave one.
@@ -20,8 +20,12 @@ pub const MOST_MESSAGES: usize = 32;
 pub const MOST_TURNS: usize = 1_024;
 /// "v and w are variables 0 to 7".
 pub const VARIABLES: usize = 8;
-/// "The answer memory is ... exactly 24 bytes."
-pub const ANSWER_BYTES: usize = 24;
+/// The numbers of an answer: document 01's "Six numbers", to which Note 3 adds one: "The answer gains
+/// a seventh number".
+pub const NUMBERS: usize = 7;
+/// Document 01 has "exactly 24 bytes", for six numbers "in 32 bits each". Note 3: "The C answer memory
+/// becomes 28 bytes".
+pub const ANSWER_BYTES: usize = 4 * NUMBERS;
 /// The bytes that `runsheet` lends.
 pub const LENT: usize = 32_768;
 
@@ -502,34 +506,60 @@ fn command(text: &[u8], keys: usize) -> Result<Command, u32> {
     Ok(command)
 }
 
-/// "clamped to the nearest end of the range".
-fn clamped(number: i64) -> i32 {
-    if number < LOWEST {
+/// What one of `add`, `sub`, `mul` and `div` gives. Note 3: each "shall say whether its exact result
+/// lay outside the range".
+#[derive(Clone, Copy)]
+struct Outcome {
+    value: i32,
+    clamped: bool,
+}
+
+impl Outcome {
+    /// The value. A clamped one is added to the count.
+    fn counted(self, clamped: &mut usize) -> i32 {
+        *clamped += usize::from(self.clamped);
+        self.value
+    }
+}
+
+/// "clamped to the nearest end of the range". Reading: an exact result that just reaches an end lies
+/// in the range, and is not clamped.
+fn clamped(exact: i64) -> Outcome {
+    let value = if exact < LOWEST {
         i32::MIN
-    } else if number > HIGHEST {
+    } else if exact > HIGHEST {
         i32::MAX
     } else {
-        number as i32
+        exact as i32
+    };
+    Outcome {
+        value,
+        clamped: !(LOWEST..=HIGHEST).contains(&exact),
     }
 }
 
 /// "v becomes v + w, v - w, v times w, clamped". No step of it leaves 64 bits.
-fn sum(v: i32, w: i32) -> i32 {
+fn sum(v: i32, w: i32) -> Outcome {
     clamped(i64::from(v) + i64::from(w))
 }
 
-fn difference(v: i32, w: i32) -> i32 {
+fn difference(v: i32, w: i32) -> Outcome {
     clamped(i64::from(v) - i64::from(w))
 }
 
-fn product(v: i32, w: i32) -> i32 {
+fn product(v: i32, w: i32) -> Outcome {
     clamped(i64::from(v) * i64::from(w))
 }
 
-/// "quotient cut toward zero and clamped; a zero divisor gives 0".
-fn quotient(v: i32, w: i32) -> i32 {
+/// "quotient cut toward zero and clamped; a zero divisor gives 0". Reading: the exact result is the
+/// quotient that is cut already, so that of all pairs only -2147483648 and -1 leave the range.
+fn quotient(v: i32, w: i32) -> Outcome {
+    // Note 3: "a zero divisor doesn't count".
     if w == 0 {
-        return 0;
+        return Outcome {
+            value: 0,
+            clamped: false,
+        };
     }
     clamped(i64::from(v) / i64::from(w))
 }
@@ -538,16 +568,19 @@ fn quotient(v: i32, w: i32) -> i32 {
 // Two executions and one message
 // ---------------------------------------------------------------------------------------------
 
-/// "Each execution has its place and eight variables, all 0 at first."
+/// "Each execution has its place and eight variables, all 0 at first." Each counts its own clamped
+/// results too, for Note 3.
 #[derive(Clone, Copy)]
 struct Execution {
     place: usize,
     variables: [i32; VARIABLES],
+    clamped: usize,
 }
 
 const FIRST: Execution = Execution {
     place: 0,
     variables: [0; VARIABLES],
+    clamped: 0,
 };
 
 /// "Both share one message. At each key it has a low field and a high field."
@@ -565,13 +598,18 @@ fn step(
     end: usize,
 ) -> Execution {
     let variables = &mut execution.variables;
+    let clamped = &mut execution.clamped;
     let mut next = execution.place + 1;
     match command {
         Command::Set(v, n) => variables[v] = n,
-        Command::Add(v, w) => variables[v] = sum(variables[v], variables[w]),
-        Command::Sub(v, w) => variables[v] = difference(variables[v], variables[w]),
-        Command::Mul(v, w) => variables[v] = product(variables[v], variables[w]),
-        Command::Div(v, w) => variables[v] = quotient(variables[v], variables[w]),
+        // Note 3: "Each of `add`, `sub`, `mul` and `div` shall say whether its exact result lay outside
+        // the range".
+        Command::Add(v, w) => variables[v] = sum(variables[v], variables[w]).counted(clamped),
+        Command::Sub(v, w) => {
+            variables[v] = difference(variables[v], variables[w]).counted(clamped)
+        }
+        Command::Mul(v, w) => variables[v] = product(variables[v], variables[w]).counted(clamped),
+        Command::Div(v, w) => variables[v] = quotient(variables[v], variables[w]).counted(clamped),
         // "v becomes the entry at k, 0 if absent".
         Command::Read(v, k) => variables[v] = fields[k].unwrap_or(0),
         // "1 if the entry at k is present, else 0".
@@ -606,6 +644,12 @@ pub enum CallRule {
 pub struct Unreported {
     /// H turns that passed idle because the low call of that number was of the other kind.
     pub idle_by_kind: usize,
+    /// The clamped results of the high execution.
+    pub high_clamped: usize,
+    /// Results of the low execution that are an end of the range and were not clamped.
+    pub low_at_an_end: usize,
+    /// Times that the low execution divided by zero.
+    pub low_zero_divisors: usize,
 }
 
 /// All that a run keeps.
@@ -666,8 +710,26 @@ impl<'a> Run<'a> {
             self.low_calls.push(command);
         }
         let end = self.job.commands.len();
-        self.low = step(self.low, command, &mut self.message.low, end);
+        let before = self.low;
+        self.low = step(before, command, &mut self.message.low, end);
         self.low_steps += 1;
+        self.look_at_low_result(command, &before);
+    }
+
+    /// Counts what comes near to a clamped result of the low execution and is none.
+    fn look_at_low_result(&mut self, command: Command, before: &Execution) {
+        let (Command::Add(v, w) | Command::Sub(v, w) | Command::Mul(v, w) | Command::Div(v, w)) =
+            command
+        else {
+            return;
+        };
+        let at_an_end = matches!(self.low.variables[v], i32::MIN | i32::MAX);
+        if at_an_end && self.low.clamped == before.clamped {
+            self.unreported.low_at_an_end += 1;
+        }
+        if command == Command::Div(v, w) && before.variables[w] == 0 {
+            self.unreported.low_zero_divisors += 1;
+        }
     }
 
     /// "`receive` takes the next message line and fills all fields".
@@ -717,6 +779,7 @@ impl<'a> Run<'a> {
         // "A `receive` or `send` of its own has no effect but to move it on."
         let end = self.job.commands.len();
         self.high = step(self.high, command, &mut self.message.high, end);
+        self.unreported.high_clamped = self.high.clamped;
     }
 
     /// Note 2: "the j-th high call moves on only if the j-th low call has been made and was of the
@@ -738,7 +801,7 @@ impl<'a> Run<'a> {
         true
     }
 
-    fn answer(&self, ending: u32) -> [u32; 6] {
+    fn answer(&self, ending: u32) -> [u32; NUMBERS] {
         // No count is above 1,024 lines of 106 bytes, so each fits in 32 bits.
         [
             ending,
@@ -747,6 +810,8 @@ impl<'a> Run<'a> {
             self.low_steps as u32,
             self.written as u32,
             self.taken as u32,
+            // Note 3: "the clamped results of the low execution alone".
+            self.low.clamped as u32,
         ]
     }
 }
@@ -781,7 +846,8 @@ fn column(field: Option<i32>) -> String {
 
 /// "The secret columns are the 11 characters of secret keys: place p of the output memory, from 0,
 /// lies in one exactly when p is below the bytes written and the remainder of p by 10 + 12 × K is
-/// from 10 + 12 × k to 20 + 12 × k for a secret key k."
+/// from 10 + 12 × k to 20 + 12 × k for a secret key k." All else is under the secrecy rule, which by
+/// Note 3 "covers the new number".
 pub fn in_secret_column(job: &Job, place: usize, written: usize) -> bool {
     let remainder = place % job.line_length();
     let in_column = |k: usize| (10 + 12 * k..=20 + 12 * k).contains(&remainder);
@@ -792,14 +858,15 @@ pub fn in_secret_column(job: &Job, place: usize, written: usize) -> bool {
 // What a run answers
 // ---------------------------------------------------------------------------------------------
 
-/// Runs a job to its ending. Six numbers: "ending or refusal number, line, positions used, low
-/// steps, bytes written, messages taken". The job must be one that [`read`] could return.
-pub fn run(job: &Job, output: &mut [u8]) -> [u32; 6] {
+/// Runs a job to its ending. Document 01's six numbers: "ending or refusal number, line, positions
+/// used, low steps, bytes written, messages taken". Note 3: "The answer gains a seventh number, the
+/// clamped results of the low execution alone". The job must be one that [`read`] could return.
+pub fn run(job: &Job, output: &mut [u8]) -> [u32; NUMBERS] {
     run_by(CallRule::SameKind, job, output).0
 }
 
 /// Runs a job to its ending by one of the rules for calls, and says what its answer does not.
-pub fn run_by(rule: CallRule, job: &Job, output: &mut [u8]) -> ([u32; 6], Unreported) {
+pub fn run_by(rule: CallRule, job: &Job, output: &mut [u8]) -> ([u32; NUMBERS], Unreported) {
     let mut run = Run::first(job, rule, output);
     let ending = take_turns(&mut run);
     (run.answer(ending), run.unreported)
@@ -834,19 +901,19 @@ fn take_turns(run: &mut Run) -> u32 {
 }
 
 /// Reads a sheet and runs it. "From the input. Output memory is untouched and the four counts are
-/// 0."
-pub fn run_sheet(sheet: &[u8], output: &mut [u8]) -> [u32; 6] {
+/// 0." Note 3: the seventh number too "is 0 on a refusal of the sheet".
+pub fn run_sheet(sheet: &[u8], output: &mut [u8]) -> [u32; NUMBERS] {
     match read(sheet) {
         Ok(job) => run(&job, output),
-        Err(refusal) => [refusal.number, refusal.line, 0, 0, 0, 0],
+        Err(refusal) => [refusal.number, refusal.line, 0, 0, 0, 0, 0],
     }
 }
 
 /// What the C program calls. "The six numbers go there in 32 bits each, low byte first, and the
-/// first is also the return."
+/// first is also the return." By Note 3 they are seven.
 pub fn c_entry(sheet: &[u8], output: &mut [u8], answer: &mut [u8]) -> u32 {
     // 10: "the answer memory is not exactly 24 bytes; returned before anything else, nothing
-    // written".
+    // written". Note 3: it "becomes 28 bytes, and 10 follows that". Reading: 24 bytes get 10 now.
     if answer.len() != ANSWER_BYTES {
         return 10;
     }
@@ -863,8 +930,9 @@ pub(crate) fn write_numbers(answer: &mut [u8], numbers: &[u32]) {
 }
 
 /// What `runsheet` prints when it lends `lent` bytes: "the sent lines and then `end=` with the six
-/// numbers, single spaces between and a line feed last". It "reads at most 16,385 bytes", which is
-/// enough to refuse every longer sheet in the same words.
+/// numbers, single spaces between and a line feed last", and of the seventh number Note 3 says: "The
+/// `end=` line shows it last". It "reads at most 16,385 bytes", which is enough to refuse every longer
+/// sheet in the same words.
 pub fn printed(sheet: &[u8], lent: usize) -> Vec<u8> {
     let mut output = vec![0; lent];
     let numbers = run_sheet(sheet, &mut output);
@@ -874,7 +942,7 @@ pub fn printed(sheet: &[u8], lent: usize) -> Vec<u8> {
 }
 
 /// The last line that `runsheet` prints.
-pub fn end_line(numbers: [u32; 6]) -> Vec<u8> {
+pub fn end_line(numbers: [u32; NUMBERS]) -> Vec<u8> {
     numbers_line("end", &numbers)
 }
 

@@ -7,7 +7,7 @@ use reference::corners::{
 use reference::generate::{
     accepted, accepted_job, damaged, memory_length, noise, secret_pair, sheet_of, Rng, Shape,
 };
-use reference::model::{Class, CLASSES, LENT};
+use reference::model::{Class, ANSWER_BYTES, CLASSES, LENT, NUMBERS};
 use reference::{
     c_entry, in_secret_column, printed, read, run_sheet, Command, Job, Level, Refusal,
 };
@@ -22,7 +22,7 @@ const SENT: &[u8] = b"sent=0004 +0000000012 -0000000006\n";
 /// What the output memory holds before a run.
 const FILL: u8 = 0xaa;
 
-fn filled_run(sheet: &[u8], lent: usize) -> ([u32; 6], Vec<u8>) {
+fn filled_run(sheet: &[u8], lent: usize) -> ([u32; NUMBERS], Vec<u8>) {
     let mut output = vec![FILL; lent];
     let numbers = run_sheet(sheet, &mut output);
     (numbers, output)
@@ -61,10 +61,11 @@ fn a_sheet_is_read_as_written() {
 #[test]
 fn every_corner_prints_what_the_document_says() {
     let corners = corners();
-    let count = EXAMPLES.len() + RUNS.len() + CALLS.len() + ARITHMETIC.len();
+    let runs = EXAMPLES.len() + RUNS.len() + CALLS.len();
+    let arithmetic = ARITHMETIC.len();
     let refused = REFUSED.len() + REFUSED_BODIES.len();
     let long = LONG.len() + LONG_CALLS.len();
-    assert_eq!(corners.len(), count + refused + long);
+    assert_eq!(corners.len(), runs + arithmetic + refused + long);
     corners.iter().for_each(check);
 }
 
@@ -90,14 +91,14 @@ fn the_examples_print_what_stands_beside_them() {
 #[test]
 fn output_is_touched_by_sent_lines_only() {
     let (numbers, output) = filled_run(SHEET, 100);
-    assert_eq!(numbers, [0, 0, 5, 4, 34, 1]);
+    assert_eq!(numbers, [0, 0, 5, 4, 34, 1, 0]);
     assert_eq!(&output[..34], SENT);
     assert_eq!(output[34..], [FILL; 66]);
     let (numbers, output) = filled_run(SHEET, 33);
-    assert_eq!(numbers, [32, 0, 4, 3, 0, 1]);
+    assert_eq!(numbers, [32, 0, 4, 3, 0, 1, 0]);
     assert_eq!(output, [FILL; 33]);
     let (numbers, output) = filled_run(b"sheet=1\nkeys=0\n", 40);
-    assert_eq!(numbers, [4, 2, 0, 0, 0, 0]);
+    assert_eq!(numbers, [4, 2, 0, 0, 0, 0, 0]);
     assert_eq!(output, [FILL; 40]);
 }
 
@@ -108,20 +109,20 @@ fn a_run_can_fill_the_bytes_of_runsheet() {
     sheet.extend([b'L'; 1024]);
     sheet.push(b'\n');
     let (numbers, output) = filled_run(&sheet, LENT);
-    assert_eq!(numbers, [32, 0, 618, 618, 32_754, 0]);
+    assert_eq!(numbers, [32, 0, 618, 618, 32_754, 0, 0]);
     assert!(output[..32_754].ends_with(b" ...........\n"));
     assert_eq!(output[32_754..], [FILL; 14]);
     let (numbers, _) = filled_run(&sheet, 512 * 106);
-    assert_eq!(numbers, [31, 0, 1024, 1024, 54_272, 0]);
+    assert_eq!(numbers, [31, 0, 1024, 1024, 54_272, 0, 0]);
 }
 
 #[test]
-fn c_entry_writes_six_numbers_low_byte_first() {
+fn c_entry_writes_seven_numbers_low_byte_first() {
     let mut output = [FILL; 34];
-    let mut answer = [FILL; 24];
+    let mut answer = [FILL; ANSWER_BYTES];
     assert_eq!(c_entry(SHEET, &mut output, &mut answer), 0);
-    let numbers: [u8; 24] = [
-        0, 0, 0, 0, 0, 0, 0, 0, 5, 0, 0, 0, 4, 0, 0, 0, 34, 0, 0, 0, 1, 0, 0, 0,
+    let numbers: [u8; 28] = [
+        0, 0, 0, 0, 0, 0, 0, 0, 5, 0, 0, 0, 4, 0, 0, 0, 34, 0, 0, 0, 1, 0, 0, 0, 0, 0, 0, 0,
     ];
     assert_eq!(answer, numbers);
     assert_eq!(output, SENT);
@@ -130,13 +131,13 @@ fn c_entry_writes_six_numbers_low_byte_first() {
     let sheet = [&long[..], b"\x00"].concat();
     assert_eq!(c_entry(&sheet, &mut output, &mut answer), 2);
     assert_eq!(answer[..8], [2, 0, 0, 0, 45, 1, 0, 0]);
-    assert_eq!(answer[8..], [0; 16]);
+    assert_eq!(answer[8..], [0; 20]);
     assert_eq!(output, SENT);
 }
 
 #[test]
 fn c_entry_refuses_answer_memory_of_another_length_before_anything_else() {
-    for length in [0, 1, 23, 25, 48] {
+    for length in [0, 1, 24, 27, 29, 48] {
         for sheet in [SHEET, b"", &[0; 16_385]] {
             let mut output = [FILL; 34];
             let mut answer = vec![FILL; length];
@@ -283,11 +284,12 @@ fn counts_agree_with_turns_and_output() {
         let sheet = accepted(&mut rng, Shape::ALL[round % 4]);
         let lent = memory_length(&mut rng, &sheet);
         let job = read(&sheet).expect("generated sheets are accepted");
-        let ([ending, line, positions, low_steps, written, taken], output) =
+        let ([ending, line, positions, low_steps, written, taken, clamped], output) =
             filled_run(&sheet, lent);
         let used = &job.turns[..positions as usize];
         let low = used.iter().filter(|&&letter| letter == Level::Low).count();
         assert_eq!((line, low_steps as usize), (0, low));
+        assert!(clamped <= low_steps);
         assert!(taken as usize <= job.messages.len());
         assert!(ending != 31 || used.len() == job.turns.len());
         let written = written as usize;
@@ -300,8 +302,8 @@ fn counts_agree_with_turns_and_output() {
     }
 }
 
-/// The claim about two whole runs: what is reported and sent, the secret columns aside, does not
-/// depend on the secrets.
+/// The claim about two whole runs: what is reported, all seven numbers, and what is sent, the secret
+/// columns aside, does not depend on the secrets.
 #[test]
 fn secret_pairs_answer_alike() {
     let mut rng = Rng::new(8);

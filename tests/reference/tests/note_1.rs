@@ -80,7 +80,7 @@ fn c_entry_writes_three_numbers_low_byte_first() {
 
 #[test]
 fn c_entry_refuses_answer_memory_of_another_length_before_anything_else() {
-    for length in [0, 1, 11, 13, 24] {
+    for length in [0, 1, 11, 13, 24, 28] {
         for export in [EXPORT, b"", &[b'"'; 4_000]] {
             let mut output = [FILL; 24];
             let mut answer = vec![FILL; length];

@@ -5,7 +5,7 @@
 use reference::corners::calls::{CALLS, LATE, SAME, WRONG};
 use reference::corners::{Run, EXAMPLES};
 use reference::generate::{accepted_job, memory_length, sheet_of, Rng, Shape};
-use reference::model::{end_line, run_by, CallRule, Unreported};
+use reference::model::{end_line, run_by, CallRule, NUMBERS};
 use reference::{in_secret_column, read, Job, Level};
 
 /// What the output memory holds before a run.
@@ -13,7 +13,7 @@ const FILL: u8 = 0xaa;
 
 /// A run: its answer, the output memory after it, and the H turns that were idle by the kind.
 struct Ran {
-    numbers: [u32; 6],
+    numbers: [u32; NUMBERS],
     output: Vec<u8>,
     idle_by_kind: usize,
 }
@@ -21,11 +21,11 @@ struct Ran {
 impl Ran {
     fn of(rule: CallRule, job: &Job, lent: usize) -> Ran {
         let mut output = vec![FILL; lent];
-        let (numbers, Unreported { idle_by_kind }) = run_by(rule, job, &mut output);
+        let (numbers, unreported) = run_by(rule, job, &mut output);
         Ran {
             numbers,
             output,
-            idle_by_kind,
+            idle_by_kind: unreported.idle_by_kind,
         }
     }
 
@@ -46,22 +46,22 @@ fn ran(rule: CallRule, &(lent, sheet, _): &Run) -> Ran {
 
 #[test]
 fn the_makers_program_no_longer_sends_what_it_made_of_another_message() {
-    let before = "sent=0013 +0000000002 +0000000007\nend=0 0 14 7 34 2\n";
-    let now = "sent=0013 +0000000002 +0000000002\nend=0 0 14 7 34 2\n";
+    let before = "sent=0013 +0000000002 +0000000007\nend=0 0 14 7 34 2 0\n";
+    let now = "sent=0013 +0000000002 +0000000002\nend=0 0 14 7 34 2 0\n";
     assert_eq!(ran(CallRule::EitherKind, &WRONG).printed(), before);
     assert_eq!(ran(CallRule::SameKind, &WRONG).printed(), now);
 }
 
 #[test]
 fn a_high_receive_at_a_low_one_moves_on_as_before() {
-    let printed = "sent=0013 +0000000002 +0000000007\nend=0 0 14 7 34 2\n";
+    let printed = "sent=0013 +0000000002 +0000000007\nend=0 0 14 7 34 2 0\n";
     assert_eq!(ran(CallRule::EitherKind, &SAME).printed(), printed);
     assert_eq!(ran(CallRule::SameKind, &SAME).printed(), printed);
 }
 
 #[test]
 fn high_letters_after_the_end_are_no_turns() {
-    let printed = "sent=0006 +0000000002 +0000000002\nend=0 0 7 7 34 2\n";
+    let printed = "sent=0006 +0000000002 +0000000002\nend=0 0 7 7 34 2 0\n";
     assert_eq!(ran(CallRule::SameKind, &LATE).printed(), printed);
     assert_eq!(ran(CallRule::SameKind, &LATE).idle_by_kind, 0);
 }
@@ -94,8 +94,8 @@ fn the_corners_have_both_sides_of_the_rule() {
 
 // What the note changes, and what not.
 
-/// The six numbers and the open columns stay what they were; only secret columns change, and these
-/// only where a turn was idle by the kind.
+/// The numbers and the open columns stay what they were; only secret columns change, and these only
+/// where a turn was idle by the kind.
 #[test]
 fn only_secret_columns_change() {
     let mut rng = Rng::new(21);
