@@ -3,10 +3,12 @@
 //! documents.
 
 pub mod calls;
+pub mod clamps;
 pub mod log;
 
 use crate::model::{end_line, LENT};
 use calls::{CALLS, LONG_CALLS};
+use clamps::{CLAMPS, ENDS, LONG_CLAMPS, REFUSED_CLAMPS};
 
 /// A sheet, the bytes lent to it, and what `runsheet` would print with that many bytes lent.
 #[derive(Debug, Clone, PartialEq, Eq)]
@@ -19,22 +21,22 @@ pub struct Corner {
 /// Every corner of the tables below, in their order.
 pub fn corners() -> Vec<Corner> {
     let mut corners = Vec::new();
-    for &(lent, sheet, printed) in EXAMPLES.iter().chain(RUNS).chain(CALLS) {
+    for &(lent, sheet, printed) in EXAMPLES.iter().chain(RUNS).chain(CALLS).chain(CLAMPS) {
         corners.push(corner(lent, sheet.as_bytes(), printed.as_bytes()));
     }
-    for &(v, word, w, result, clamped) in ARITHMETIC {
+    for &(v, word, w, result, clamped) in ARITHMETIC.iter().chain(ENDS) {
         let sheet = arithmetic_sheet(v, word, w);
         let printed = format!("sent=0004 {result}\nend=0 0 5 5 22 0 {clamped}\n");
         corners.push(corner(LENT, sheet.as_bytes(), printed.as_bytes()));
     }
-    for &(number, line, sheet) in REFUSED {
+    for &(number, line, sheet) in REFUSED.iter().chain(REFUSED_CLAMPS) {
         corners.push(refused(number, line, sheet));
     }
     for &(number, line, body) in REFUSED_BODIES {
         let sheet = format!("sheet=1\nkeys=2\n{body}");
         corners.push(refused(number, line, sheet.as_bytes()));
     }
-    for &(pieces, printed) in LONG.iter().chain(LONG_CALLS) {
+    for &(pieces, printed) in LONG.iter().chain(LONG_CALLS).chain(LONG_CLAMPS) {
         let sheet: Vec<u8> = pieces
             .iter()
             .flat_map(|(text, count)| text.repeat(*count))

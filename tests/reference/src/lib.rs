@@ -10,7 +10,8 @@
 //! - [`generate`] makes random sheets from a seed: accepted, damaged, noisy, and pairs that differ
 //!   only in their secrets. [`generate::log`] makes random exports.
 //! - [`corners`] lists hand-written sheets with the text that the documents demand for each, those
-//!   of Note 2 in [`corners::calls`]; [`corners::log`] has exports with their lines.
+//!   of Note 2 in [`corners::calls`], those of Note 3 in [`corners::clamps`]; [`corners::log`] has
+//!   exports with their lines.
 
 pub mod corners;
 pub mod generate;

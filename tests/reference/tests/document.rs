@@ -1,6 +1,7 @@
 //! Document 01 against the model: its corners, its memories, and what the generators reach.
 
 use reference::corners::calls::{CALLS, LONG_CALLS};
+use reference::corners::clamps::{CLAMPS, ENDS, LONG_CLAMPS, REFUSED_CLAMPS};
 use reference::corners::{
     corners, Corner, ARITHMETIC, EXAMPLES, LONG, REFUSED, REFUSED_BODIES, RUNS,
 };
@@ -61,10 +62,10 @@ fn a_sheet_is_read_as_written() {
 #[test]
 fn every_corner_prints_what_the_document_says() {
     let corners = corners();
-    let runs = EXAMPLES.len() + RUNS.len() + CALLS.len();
-    let arithmetic = ARITHMETIC.len();
-    let refused = REFUSED.len() + REFUSED_BODIES.len();
-    let long = LONG.len() + LONG_CALLS.len();
+    let runs = EXAMPLES.len() + RUNS.len() + CALLS.len() + CLAMPS.len();
+    let arithmetic = ARITHMETIC.len() + ENDS.len();
+    let refused = REFUSED.len() + REFUSED_CLAMPS.len() + REFUSED_BODIES.len();
+    let long = LONG.len() + LONG_CALLS.len() + LONG_CLAMPS.len();
     assert_eq!(corners.len(), runs + arithmetic + refused + long);
     corners.iter().for_each(check);
 }
