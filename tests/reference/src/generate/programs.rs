@@ -22,12 +22,17 @@ const NEAR_THE_ENDS: [(i32, i32); 12] = [
     (7, 0),
 ];
 
+/// Numbers that lead many an entry out of the range, or just to its end, by one of the operations.
+const LEADS_OUT: [i32; 6] = [i32::MIN, i32::MIN + 1, -1, 65_536, i32::MAX - 1, i32::MAX];
+
 /// Exactly `count` commands of every kind, with loops and jumps; most of them come to an end.
 pub fn mixed(rng: &mut Rng, secrets: &[Option<i32>], count: usize) -> Vec<Command> {
     let mut writer = Writer::new(rng, secrets);
     // At the start, where both executions come to it, and where a short program has room for it.
-    if writer.rng.chance(1, 8) {
-        writer.calls_of_two_kinds();
+    match writer.rng.below(8) {
+        0 => writer.calls_of_two_kinds(),
+        1..=3 => writer.reckon(),
+        _ => {}
     }
     while writer.commands.len() < count {
         writer.passage();
@@ -142,7 +147,7 @@ impl<'a> Writer<'a> {
     }
 
     fn passage(&mut self) {
-        match self.rng.below(23) {
+        match self.rng.below(26) {
             0..=4 => self.carry(),
             5..=7 => {
                 self.calculate();
@@ -159,6 +164,7 @@ impl<'a> Writer<'a> {
             15 | 16 => self.plain(),
             17 => self.leave(),
             18 | 19 => self.jump(),
+            20..=22 => self.reckon(),
             _ => self.calls_of_two_kinds(),
         }
     }
@@ -212,11 +218,57 @@ impl<'a> Writer<'a> {
         };
         self.add(Command::Set(v, first));
         self.add(Command::Set(w, second));
+        self.operation(v, w);
+        self.add(Command::Put(k, v));
+    }
+
+    fn operation(&mut self, v: usize, w: usize) {
         let operation = self
             .rng
             .pick(&[Command::Add, Command::Sub, Command::Mul, Command::Div]);
         self.add(operation(v, w));
+    }
+
+    /// An operation on an entry that the executions may see differently, so that one of them may clamp
+    /// what the other does not.
+    fn reckon(&mut self) {
+        let (v, k) = (self.variable(), self.secret_key());
+        let w = (v + 1) % VARIABLES;
+        self.add(Command::Receive);
+        self.add(Command::Read(v, k));
+        match self.rng.below(6) {
+            0 => self.operation(v, v),
+            1 => {
+                let other = self.secret_key();
+                self.add(Command::Read(w, other));
+                self.operation(v, w);
+            }
+            2 => {
+                let number = self.rng.pick(&LEADS_OUT);
+                self.add(Command::Set(w, number));
+                self.operation(v, w);
+            }
+            _ => self.lead_to_an_end(v, w, k),
+        }
         self.add(Command::Put(k, v));
+        if self.rng.chance(3, 4) {
+            self.add(Command::Send);
+        }
+    }
+
+    /// A sum or a difference that leads the dummy of `k` to the nearer end of the range, or to the
+    /// number before or after it. Entries beyond the dummy are led out.
+    fn lead_to_an_end(&mut self, v: usize, w: usize, k: usize) {
+        let dummy = self.secrets[k].unwrap_or(0);
+        let end = if dummy < 0 { i32::MIN } else { i32::MAX };
+        let step = (end - dummy).saturating_add(self.rng.pick(&[-1, 0, 0, 1]));
+        if self.rng.chance(1, 2) {
+            self.add(Command::Set(w, step));
+            self.add(Command::Add(v, w));
+        } else {
+            self.add(Command::Set(w, step.saturating_neg()));
+            self.add(Command::Sub(v, w));
+        }
     }
 
     /// A test of an entry. Gives the place of its branch, which is to be aimed.
