@@ -16,7 +16,7 @@ pub static LOGS: Part = Part {
         input: "export",
     },
     answer_bytes: CSV_ANSWER_BYTES,
-    wrong_lengths: &[0, 1, 4, 8, 11, 13, 16, 24, 48, 268],
+    wrong_lengths: &[0, 1, 4, 8, 11, 13, 16, 24, 28, 48, 268],
     memory_length,
     corners,
     text: lines_and_answer,

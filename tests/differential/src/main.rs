@@ -103,6 +103,16 @@ mod tests {
         }
     }
 
+    /// 24 bytes held the six numbers that document 01 has.
+    #[test]
+    fn wrong_lengths_are_wrong() {
+        for part in PARTS {
+            assert!(!part.wrong_lengths.contains(&part.answer_bytes));
+        }
+        assert_eq!(sheets::SHEETS.answer_bytes, 28);
+        assert!(sheets::SHEETS.wrong_lengths.contains(&24));
+    }
+
     #[test]
     fn a_first_word_chooses_a_part() {
         let names = |parts: &[&Part]| -> Vec<&str> { parts.iter().map(|part| part.name).collect() };

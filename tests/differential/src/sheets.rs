@@ -7,7 +7,7 @@ use crate::part::{Corner, Part};
 use crate::tally::{Tally, Telling, Wanted};
 use pavebox::{Answer, ANSWER_BYTES};
 use reference::generate::{accepted, damaged, memory_length, noise, secret_pair, Rng, Shape};
-use reference::model::{end_line, run_by, CallRule};
+use reference::model::{end_line, run_by, CallRule, NUMBERS};
 use reference::read;
 
 pub static SHEETS: Part = Part {
@@ -18,7 +18,7 @@ pub static SHEETS: Part = Part {
         input: "sheet",
     },
     answer_bytes: ANSWER_BYTES,
-    wrong_lengths: &[0, 1, 4, 8, 20, 22, 23, 25, 26, 28, 32, 48],
+    wrong_lengths: &[0, 1, 4, 8, 20, 24, 26, 27, 29, 30, 32, 56],
     memory_length,
     corners,
     text: printed,
@@ -26,11 +26,20 @@ pub static SHEETS: Part = Part {
     // Every first number of document 01.
     wanted: Wanted {
         numbers: &[0, 31, 32, 1, 2, 3, 4, 5, 6, 7, 8, 9, 10],
-        tellings: &[&PAIRS_DIFFER, &IDLE_BY_KIND, &KIND_DECIDES],
+        tellings: &[
+            &PAIRS_DIFFER,
+            &PAIRS_CLAMP_DIFFERENTLY,
+            &IDLE_BY_KIND,
+            &KIND_DECIDES,
+            &HIGH_CLAMPS_ALONE,
+            &LOW_CLAMPS_ALONE,
+            &DIVIDES_BY_ZERO,
+            &REACHES_AN_END,
+        ],
     },
 };
 
-/// About a third do; pairs whose columns are equal could not tell a monitor that mixes up the two
+/// About two in five do; pairs whose columns are equal could not tell a monitor that mixes up the two
 /// executions.
 static PAIRS_DIFFER: Telling = Telling {
     words: "pairs have different secret columns",
@@ -50,6 +59,40 @@ static KIND_DECIDES: Telling = Telling {
     one_of: 200,
 };
 
+/// About one in 18 has; the other pairs would have equal seventh numbers even if these counted the
+/// high executions' results.
+static PAIRS_CLAMP_DIFFERENTLY: Telling = Telling {
+    words: "pairs have high executions with different counts of clamped results",
+    one_of: 60,
+};
+
+/// About one in 54 has; where the low execution clamps too, a monitor that counts what either of them
+/// clamps could be right by chance.
+static HIGH_CLAMPS_ALONE: Telling = Telling {
+    words: "accepted sheets have a high execution that clamps and a low one that does not",
+    one_of: 200,
+};
+
+/// About one in 18 has; where the high execution clamps too, a monitor that counts its results could be
+/// right by chance.
+static LOW_CLAMPS_ALONE: Telling = Telling {
+    words: "accepted sheets have a low execution that clamps and a high one that does not",
+    one_of: 60,
+};
+
+/// About one in 10 has; the others could not tell a monitor that counts a zero divisor.
+static DIVIDES_BY_ZERO: Telling = Telling {
+    words: "accepted sheets have a low execution that divides by zero",
+    one_of: 40,
+};
+
+/// About one in 9 has; the others could not tell a monitor that counts a result at an end as one beyond
+/// it.
+static REACHES_AN_END: Telling = Telling {
+    words: "accepted sheets have a low execution with a result that just reaches an end",
+    one_of: 40,
+};
+
 /// Every so many cases there is a pair.
 const PAIR_EVERY: u64 = 4;
 
@@ -63,15 +106,15 @@ fn corners() -> Vec<Corner> {
     corners.into_iter().map(corner).collect()
 }
 
-/// The six numbers, if the answer memory has them.
-pub fn numbers(left: &Left) -> Option<[u32; 6]> {
+/// The seven numbers, if the answer memory has them.
+pub fn numbers(left: &Left) -> Option<[u32; NUMBERS]> {
     let bytes: &[u8; ANSWER_BYTES] = left.answer().try_into().ok()?;
     Some(Answer::from_bytes(bytes).numbers())
 }
 
 /// What `runsheet` would print.
 fn printed(left: &Left) -> Vec<u8> {
-    let numbers = numbers(left).unwrap_or([0; 6]);
+    let numbers = numbers(left).unwrap_or([0; NUMBERS]);
     [left.lines(numbers[4]), &end_line(numbers)].concat()
 }
 
@@ -82,18 +125,24 @@ fn random(rng: &mut Rng, place: u64, tally: &mut Tally) -> Result<(), Difference
     let sheet = random_sheet(rng);
     let left = SHEETS.compare_once(rng, &sheet)?;
     tally.count_random(left.returned);
-    count_kinds(&sheet, &left, tally);
+    count_tellings(&sheet, &left, tally);
     Ok(())
 }
 
-/// What the kinds of calls have decided in a run. It is over: `left` is what it left.
-fn count_kinds(sheet: &[u8], left: &Left, tally: &mut Tally) {
+/// What a run does not say of itself: what the kinds of calls have decided, and which execution has
+/// clamped results. It is over: `left` is what it left.
+fn count_tellings(sheet: &[u8], left: &Left, tally: &mut Tally) {
     let (Ok(job), Some(numbers)) = (read(sheet), numbers(left)) else {
         return;
     };
     let mut output = vec![0; left.output().len()];
     let (_, unreported) = run_by(CallRule::SameKind, &job, &mut output);
     tally.count_telling(&IDLE_BY_KIND, unreported.idle_by_kind > 0);
+    let (low, high) = (numbers[6] > 0, unreported.high_clamped > 0);
+    tally.count_telling(&HIGH_CLAMPS_ALONE, high && !low);
+    tally.count_telling(&LOW_CLAMPS_ALONE, low && !high);
+    tally.count_telling(&DIVIDES_BY_ZERO, unreported.low_zero_divisors > 0);
+    tally.count_telling(&REACHES_AN_END, unreported.low_at_an_end > 0);
     run_by(CallRule::EitherKind, &job, &mut output);
     let written = numbers[4] as usize;
     tally.count_telling(&KIND_DECIDES, left.lines(numbers[4]) != &output[..written]);
@@ -107,6 +156,7 @@ fn random_pair(rng: &mut Rng, tally: &mut Tally) -> Result<(), Difference> {
     let pair = compare_pair(&first, &second)?;
     tally.count_random(pair.returned);
     tally.count_telling(&PAIRS_DIFFER, pair.differs);
+    tally.count_telling(&PAIRS_CLAMP_DIFFERENTLY, pair.clamps_differently);
     Ok(())
 }
 
