@@ -25,7 +25,7 @@ pub struct Sides<const N: usize> {
 }
 
 /// Running a sheet.
-const RUN: Sides<6> = Sides {
+const RUN: Sides<7> = Sides {
     archive: |sheet, output| pavebox::run(sheet, output).numbers(),
     plain: |sheet, output| {
         plain::run(sheet, output).expect("the sheets of the comparison are accepted")

@@ -1,6 +1,7 @@
 //! The confidential run as a straightforward Rust program: safe, idiomatic, not tuned. It accepts
 //! the sheets that document 01 accepts, but does not say why it refuses the others. Calls of the high
-//! execution move on as Note 2 of document 02 says.
+//! execution move on as Note 2 of document 02 says, and the clamped results of the low one are counted
+//! as Note 3 says.
 
 const MOST_BYTES: usize = 16_384;
 const MOST_KEYS: usize = 8;
@@ -40,8 +41,8 @@ enum Command {
     Stop,
 }
 
-/// Reads a sheet and runs it: the six numbers, or nothing if the sheet is not accepted.
-pub fn run(sheet: &[u8], output: &mut [u8]) -> Option<[u32; 6]> {
+/// Reads a sheet and runs it: the seven numbers, or nothing if the sheet is not accepted.
+pub fn run(sheet: &[u8], output: &mut [u8]) -> Option<[u32; 7]> {
     let job = read(sheet)?;
     Some(run_job(&job, output))
 }
@@ -242,6 +243,7 @@ struct Execution {
     place: usize,
     variables: [i32; VARIABLES],
     fields: Entries,
+    clamped: u32,
 }
 
 impl Execution {
@@ -250,10 +252,22 @@ impl Execution {
         let mut next = self.place + 1;
         match command {
             Command::Set(v, n) => variables[v] = n,
-            Command::Add(v, w) => variables[v] = variables[v].saturating_add(variables[w]),
-            Command::Sub(v, w) => variables[v] = variables[v].saturating_sub(variables[w]),
-            Command::Mul(v, w) => variables[v] = variables[v].saturating_mul(variables[w]),
-            Command::Div(v, w) => variables[v] = quotient(variables[v], variables[w]),
+            Command::Add(v, w) => {
+                let exact = i64::from(variables[v]) + i64::from(variables[w]);
+                self.store(v, exact);
+            }
+            Command::Sub(v, w) => {
+                let exact = i64::from(variables[v]) - i64::from(variables[w]);
+                self.store(v, exact);
+            }
+            Command::Mul(v, w) => {
+                let exact = i64::from(variables[v]) * i64::from(variables[w]);
+                self.store(v, exact);
+            }
+            Command::Div(v, w) => {
+                let exact = quotient(variables[v], variables[w]);
+                self.store(v, exact);
+            }
             Command::Read(v, k) => variables[v] = self.fields[k].unwrap_or(0),
             Command::Has(v, k) => variables[v] = i32::from(self.fields[k].is_some()),
             Command::Put(k, v) => self.fields[k] = Some(variables[v]),
@@ -274,17 +288,24 @@ impl Execution {
         }
         self.place = next;
     }
-}
 
-fn quotient(v: i32, w: i32) -> i32 {
-    if w == 0 {
-        0
-    } else {
-        v.saturating_div(w)
+    /// The exact result of an operation, clamped to 32 bits where it has to be.
+    fn store(&mut self, v: usize, exact: i64) {
+        let clamped = exact.clamp(i32::MIN.into(), i32::MAX.into());
+        self.variables[v] = clamped as i32;
+        self.clamped += u32::from(clamped != exact);
     }
 }
 
-fn run_job(job: &Job, output: &mut [u8]) -> [u32; 6] {
+fn quotient(v: i32, w: i32) -> i64 {
+    if w == 0 {
+        0
+    } else {
+        i64::from(v) / i64::from(w)
+    }
+}
+
+fn run_job(job: &Job, output: &mut [u8]) -> [u32; 7] {
     let end = job.commands.len();
     let width = 10 + 12 * job.keys;
     let (mut low, mut high) = (Execution::default(), Execution::default());
@@ -336,6 +357,7 @@ fn run_job(job: &Job, output: &mut [u8]) -> [u32; 6] {
         low_steps,
         written as u32,
         taken as u32,
+        low.clamped,
     ]
 }
 
