@@ -10,10 +10,12 @@ use std::io::Write;
 
 const SEED: u64 = 20_261_115;
 const ROOM: usize = 60_000;
+/// The longest sheet. The corner with the greatest count of clamped results has 1,758 bytes.
+const LONGEST: usize = 1_800;
 const LENT: [usize; 2] = [32_768, 100];
 
-/// The documents' examples and corners, then generated sheets: at calls of two kinds, and of every
-/// kind.
+/// The documents' examples and corners, then generated sheets: at calls of two kinds, with clamped
+/// results on one side, and of every kind.
 fn sheets() -> Vec<Vec<u8>> {
     let mut rng = Rng::new(SEED);
     let mut all: Vec<Vec<u8>> = corners::corners().into_iter().map(|c| c.sheet).collect();
@@ -21,6 +23,12 @@ fn sheets() -> Vec<Vec<u8>> {
         all.push(match i % 6 {
             0 => at_calls_of_two_kinds(&mut rng, Shape::Medium),
             _ => at_calls_of_two_kinds(&mut rng, Shape::Small),
+        });
+    }
+    for i in 0..16 {
+        all.push(match i % 6 {
+            0 => clamped_on_one_side(&mut rng, Shape::Medium, i % 4 < 2),
+            _ => clamped_on_one_side(&mut rng, Shape::Small, i % 4 < 2),
         });
     }
     for i in 0..240 {
@@ -33,7 +41,7 @@ fn sheets() -> Vec<Vec<u8>> {
     }
     let mut used = 0;
     all.retain(|s| {
-        let fits = s.len() <= 1_500 && !s.contains(&0) && used + s.len() < ROOM;
+        let fits = s.len() <= LONGEST && !s.contains(&0) && used + s.len() < ROOM;
         if fits {
             used += s.len() + 1;
         }
@@ -56,6 +64,18 @@ fn sent(job: &Job, rule: CallRule) -> Vec<u8> {
     let mut output = vec![0; LENT[0]];
     run_by(rule, job, &mut output);
     output
+}
+
+/// An accepted sheet in whose run one of the executions clamps and the other does not.
+fn clamped_on_one_side(rng: &mut Rng, shape: Shape, by_low: bool) -> Vec<u8> {
+    loop {
+        let job = accepted_job(rng, shape);
+        let (numbers, unreported) = run_by(CallRule::SameKind, &job, &mut vec![0; LENT[0]]);
+        let (low, high) = (numbers[6] > 0, unreported.high_clamped > 0);
+        if (low, high) == (by_low, !by_low) {
+            return sheet_of(&job);
+        }
+    }
 }
 
 fn main() -> std::io::Result<()> {
