@@ -1,5 +1,5 @@
 -- What is claimed of clamped results holds.
-use Prim.Native.Nat.{ℕ, zero, suc, _*_, _/_, _-_, _<_, _≤_}
+use Prim.Native.Nat.{ℕ, zero, suc, _*_, _/_, _-_, _<_, _≤_, zero-le}
 use mathlib.Core.Path.{_≡_, refl, sym, _∙_, ap, subst}
 use mathlib.Core.Logic.{_≢_}
 use mathlib.Core.Bool.{Bool, true, false, cond, true≢false}
@@ -7,7 +7,7 @@ use mathlib.Core.List.{[]}
 use lib.{IntN.ℤ, IntN.negsuc, IntN.pos, IntN.negℤ, ListN.getD, ListN.replicate, Dec.ltb, Signed.mag, Signed.ltZ, Signed.quotZ}
 use borrow.Author.Tests.{ltb-true, ltb-false, le-ltb}
 use native.Mathlib.{Omega.arith, Nat.div-le-self, Nat.div-one, Nat.div-mul-le-self, Nat.mul-le-mul, Nat.le-refl, Nat.le-trans}
-use Rattle.model.specs.{Limits.greatestNumber, Arith.least, Arith.greatest, Arith.clamp, Arith.outside, Arith.computed, Arith.sum, Arith.difference, Arith.product}
+use Rattle.model.specs.{Limits.greatestNumber, Arith.least, Arith.greatest, Arith.clamp, Arith.outside, Arith.clampsBy, Arith.computed, Arith.sum, Arith.difference, Arith.product}
 use Rattle.model.specs.{Arith.quotient, Arith.isZero, Arith.byZero, Step.effectBy, Secrecy.OwnedBy, Secrecy.Alike, Examples.AllHold, Examples.lentByRunsheet}
 use Rattle.model.specs.Clamped.{Exact, exactly, none, exactOf, AlwaysSays, Clamps, AlwaysClamps, AtTheEnds, OneQuotient, doubling, doublingJob, HighUntold, sums, examples}
 use Rattle.model.specs.Data.{Entry, Absent, Open, Op, Set, Add, Sub, Mul, Div, Read, Has, Put, Drop, IfNeg, IfZero, Jump, Receive, Send, Stop, Command, High}
@@ -30,30 +30,30 @@ value-of h = ap (λ (x : Exact). computed (numberIn x) .value) h
 none-is-none : {z : ℤ} → none ≡ exactly z → ⊥
 none-is-none h = subst IsNone h tt
 
-stores : (o : Op) (c : Command) (p : ℕ) (a b : ℤ) (e : Entry) (end : ℕ) (z : ℤ) → exactOf o a b ≡ exactly z → effectBy o c p a b e end .value ≡ computed z .value
+stores : (o : Op) (c : Command) (p : ℕ) (a b : ℤ) (e : Entry) (m end : ℕ) (z : ℤ) → exactOf o a b ≡ exactly z → effectBy o c p a b e m end .value ≡ computed z .value
 unfolding exactOf sum difference product quotient
-stores Add c p a b e end z h = value-of h
-stores Sub c p a b e end z h = value-of h
-stores Mul c p a b e end z h = value-of h
-stores Div c p a b e end z h = go (isZero b) h
+stores Add c p a b e m end z h = value-of h
+stores Sub c p a b e m end z h = value-of h
+stores Mul c p a b e m end z h = value-of h
+stores Div c p a b e m end z h = go (isZero b) h
   where
     go : (t : Bool) → cond t none (exactly (quotZ a b)) ≡ exactly z → cond t byZero (computed (quotZ a b)) .value ≡ computed z .value
     go true g = absurd (none-is-none g)
     go false g = value-of g
-stores Set c p a b e end z h = absurd (none-is-none h)
-stores Read c p a b e end z h = absurd (none-is-none h)
-stores Has c p a b e end z h = absurd (none-is-none h)
-stores Put c p a b e end z h = absurd (none-is-none h)
-stores Drop c p a b e end z h = absurd (none-is-none h)
-stores IfNeg c p a b e end z h = absurd (none-is-none h)
-stores IfZero c p a b e end z h = absurd (none-is-none h)
-stores Jump c p a b e end z h = absurd (none-is-none h)
-stores Receive c p a b e end z h = absurd (none-is-none h)
-stores Send c p a b e end z h = absurd (none-is-none h)
-stores Stop c p a b e end z h = absurd (none-is-none h)
+stores Set c p a b e m end z h = absurd (none-is-none h)
+stores Read c p a b e m end z h = absurd (none-is-none h)
+stores Has c p a b e m end z h = absurd (none-is-none h)
+stores Put c p a b e m end z h = absurd (none-is-none h)
+stores Drop c p a b e m end z h = absurd (none-is-none h)
+stores IfNeg c p a b e m end z h = absurd (none-is-none h)
+stores IfZero c p a b e m end z h = absurd (none-is-none h)
+stores Jump c p a b e m end z h = absurd (none-is-none h)
+stores Receive c p a b e m end z h = absurd (none-is-none h)
+stores Send c p a b e m end z h = absurd (none-is-none h)
+stores Stop c p a b e m end z h = absurd (none-is-none h)
 
 pub always-says : AlwaysSays
-always-says c p a b e end = record { says = says (c .op) c p a b e end; stores = stores (c .op) c p a b e end }
+always-says c p a b e m end = record { says = says (c .op) c p a b e m end; stores = stores (c .op) c p a b e m end }
 
 -- ---- The range
 
@@ -64,15 +64,49 @@ always-clamps z = go (ltZ z least) (ltZ greatest z) refl refl
     go : (below above : Bool) → ltZ z least ≡ below → ltZ greatest z ≡ above → Clamps z
     go true above eb ea =
         record {
-          outside = λ o same. let low : least ≡ z = rw eb at same in true≢false (sym eb ∙ ap (λ (y : ℤ). ltZ y least) (sym low));
-          inside = λ i. absurd (true≢false (rw eb at i));
+          beyond = λ o. ((λ same. let low : least ≡ z = rw eb at same in true≢false (sym eb ∙ ap (λ (y : ℤ). ltZ y least) (sym low))), rw eb);
+          within = λ i. absurd (true≢false (rw eb at i));
         }
     go false true eb ea =
         record {
-          outside = λ o same. let high : greatest ≡ z = rw (eb, ea) at same in true≢false (sym ea ∙ ap (ltZ greatest) (sym high));
-          inside = λ i. absurd (true≢false (rw (eb, ea) at i));
+          beyond = λ o. ((λ same. let high : greatest ≡ z = rw (eb, ea) at same in true≢false (sym ea ∙ ap (ltZ greatest) (sym high))), rw (eb, ea));
+          within = λ i. absurd (true≢false (rw (eb, ea) at i));
         }
-    go false false eb ea = record { outside = λ o. absurd (true≢false (sym (rw (eb, ea) at o))); inside = λ i. rw (eb, ea) }
+    go false false eb ea = record { beyond = λ o. absurd (true≢false (sym (rw (eb, ea) at o))); within = λ i. (rw (eb, ea), rw (eb, ea)) }
+
+-- of an operation there is at most one clamped result
+one-result : (t : Bool) → clampsBy t ≤ 1
+one-result true = le-refl 1
+one-result false = zero-le
+
+pub computed-most : (z : ℤ) → computed z .clamped ≤ 1
+unfolding computed
+computed-most z = one-result (outside z)
+
+pub quotient-most : (a b : ℤ) → quotient a b .clamped ≤ 1
+unfolding quotient
+quotient-most a b = go (isZero b)
+  where
+    go : (t : Bool) → cond t byZero (computed (quotZ a b)) .clamped ≤ 1
+    go true = zero-le
+    go false = computed-most (quotZ a b)
+
+-- so the value that is stored tells
+pub tells-within : (z : ℤ) → clamp z ≡ z → outside z ≡ false
+unfolding computed
+tells-within z same = go (outside z) refl
+  where
+    go : (t : Bool) → outside z ≡ t → outside z ≡ false
+    go true e = absurd (always-clamps z .beyond e .0 same)
+    go false e = e
+
+pub tells-beyond : (z : ℤ) → clamp z ≢ z → outside z ≡ true
+unfolding computed
+tells-beyond z differs = go (outside z) refl
+  where
+    go : (t : Bool) → outside z ≡ t → outside z ≡ true
+    go true e = e
+    go false e = absurd (differs (always-clamps z .within e .0))
 
 pub at-the-ends : AtTheEnds
 unfolding outside
@@ -118,13 +152,18 @@ one-outside (negsuc a) (negsuc zero) fa o = go (ltb a greatestNumber) refl
     go false e = let same : a ≡ greatestNumber = omega (arith, ltb-false a greatestNumber e) in (ap negsuc same, refl)
 one-outside (negsuc a) (negsuc (suc b)) fa o = absurd (shut (negsuc a) (negsuc (suc b)) (omega (arith, half (suc a) b)) o)
 
+-- a clamped result lay outside
+clamped-outside : (t : Bool) → clampsBy t ≡ 1 → t ≡ true
+clamped-outside true e = refl
+clamped-outside false e = absurd (omega arith)
+
 pub one-quotient : OneQuotient
 unfolding quotient computed
 one-quotient a b fa fb o = go (isZero b) o
   where
-    go : (t : Bool) → cond t byZero (computed (quotZ a b)) .outside ≡ true → (a ≡ least) × (b ≡ negsuc 0)
-    go true h = absurd (true≢false (sym h))
-    go false h = one-outside a b (small a fa) h
+    go : (t : Bool) → cond t byZero (computed (quotZ a b)) .clamped ≡ 1 → (a ≡ least) × (b ≡ negsuc 0)
+    go true h = absurd (omega arith)
+    go false h = one-outside a b (small a fa) (clamped-outside (outside (quotZ a b)) h)
 
 -- ---- The seven numbers
 
@@ -151,4 +190,4 @@ high-untold =
 
 pub texts : AllHold examples
 unfolding opened doubling sums examples
-texts = (refl, (refl, (refl, (refl, (refl, (refl, (refl, tt)))))))
+texts = (refl, (refl, (refl, (refl, (refl, tt)))))

@@ -5,12 +5,12 @@ use mathlib.Core.Bool.{Bool, true, false, cond}
 use mathlib.Core.List.{List, [], _++_, append-nil}
 use native.Mathlib.{Nat.add-zero, Nat.le-refl, Omega.arith}
 use lib.{IntN.ℤ, IntN.pos, ListN.length, ListN.getD, Seq.set-getD, Signed.quotZ}
-use Rattle.model.specs.{Step.variable, Step.calledOf, Step.made, Step.effectBy, Step.steppedBy, Step.does, Step.callOf, Step.kindsBy, Step.callsBy, Step.clampsBy, Step.begun, State.Process, State.Processes}
+use Rattle.model.specs.{Step.variable, Step.calledOf, Step.made, Step.effectBy, Step.steppedBy, Step.does, Step.callOf, Step.kindsBy, Step.callsBy, Step.begun, State.Process, State.Processes}
 use Rattle.model.specs.{State.entry, State.stored, State.step, State.command, State.stopped, State.Role, State.leads, State.follows, State.role, State.leader}
 use Rattle.model.specs.{State.ticked, State.State}
 use Rattle.model.specs.{State.process, State.withProcess, State.noted, State.refill, Message.received, Message.receive, Message.send, Verdict.idles, Run.waitsAt, Run.share, Run.lead, Run.followed, Run.moved}
 use Rattle.model.specs.{Run.following, Run.counted, Run.turnBy, Run.turn, Run.lowFirst, CallKinds.callsIn, Clamped.exactOf, Clamped.exactly, Clamped.none, Clamped.layOutside}
-use Rattle.model.specs.Arith.{sum, difference, product, quotient, computed, byZero, isZero}
+use Rattle.model.specs.Arith.{sum, difference, product, quotient, computed, clampsBy, byZero, isZero}
 use Rattle.model.specs.Data.{Entry, Absent, Key, Op, Set, Add, Sub, Mul, Div, Read, Has, Put, Drop, IfNeg, IfZero, Jump, Receive, Send, Stop, Command, Call, Neither}
 use Rattle.model.specs.Data.{Receives, Sends, Level, Low, High, Execution}
 use Rattle.model.proofs.Levels.{leads-not-follows, at-each, put-leader, put-follower, put-at}
@@ -18,31 +18,30 @@ use Rattle.model.proofs.Levels.{leads-not-follows, at-each, put-leader,
 -- ---- Calls
 
 -- a call only moves the execution on
-call-effect : (o : Op) (c : Command) (p : ℕ) (a b : ℤ) (e : Entry) (end : ℕ) → (callOf o ≡ Neither → ⊥) → effectBy o c p a b e end ≡ made (p + 1) a e
+call-effect : (o : Op) (c : Command) (p : ℕ) (a b : ℤ) (e : Entry) (m end : ℕ) → (callOf o ≡ Neither → ⊥) → effectBy o c p a b e m end ≡ made (p + 1) a e m
 unfolding callOf
-call-effect Set c p a b e end h = absurd (h refl)
-call-effect Add c p a b e end h = absurd (h refl)
-call-effect Sub c p a b e end h = absurd (h refl)
-call-effect Mul c p a b e end h = absurd (h refl)
-call-effect Div c p a b e end h = absurd (h refl)
-call-effect Read c p a b e end h = absurd (h refl)
-call-effect Has c p a b e end h = absurd (h refl)
-call-effect Put c p a b e end h = absurd (h refl)
-call-effect Drop c p a b e end h = absurd (h refl)
-call-effect IfNeg c p a b e end h = absurd (h refl)
-call-effect IfZero c p a b e end h = absurd (h refl)
-call-effect Jump c p a b e end h = absurd (h refl)
-call-effect Receive c p a b e end h = refl
-call-effect Send c p a b e end h = refl
-call-effect Stop c p a b e end h = absurd (h refl)
+call-effect Set c p a b e m end h = absurd (h refl)
+call-effect Add c p a b e m end h = absurd (h refl)
+call-effect Sub c p a b e m end h = absurd (h refl)
+call-effect Mul c p a b e m end h = absurd (h refl)
+call-effect Div c p a b e m end h = absurd (h refl)
+call-effect Read c p a b e m end h = absurd (h refl)
+call-effect Has c p a b e m end h = absurd (h refl)
+call-effect Put c p a b e m end h = absurd (h refl)
+call-effect Drop c p a b e m end h = absurd (h refl)
+call-effect IfNeg c p a b e m end h = absurd (h refl)
+call-effect IfZero c p a b e m end h = absurd (h refl)
+call-effect Jump c p a b e m end h = absurd (h refl)
+call-effect Receive c p a b e m end h = refl
+call-effect Send c p a b e m end h = refl
+call-effect Stop c p a b e m end h = absurd (h refl)
 
 pub call-does : (c : Command) (x : Execution) (e : Entry) (end : ℕ) (k : Call) → callOf (c .op) ≡ k → callsBy k ≡ 1 → does end c x e ≡ record { execution = calledOf x; entry = e }
 unfolding does
 call-does c x e end k is call =
-    let effect = call-effect (c .op) c (x .place) (variable x (c .v)) (variable x (c .w)) e end (λ none. omega (arith, sym call ∙ ap callsBy (sym is ∙ none))) in
+    let effect = call-effect (c .op) c (x .place) (variable x (c .v)) (variable x (c .w)) e (x .clamped) end (λ none. omega (arith, sym call ∙ ap callsBy (sym is ∙ none))) in
     ap₂ (steppedBy x (c .v)) is effect
-    ∙ ap₂ (λ (vs : List ℤ) (n : ℕ). record { execution = record { place = x .place + 1; vars = vs; calls = x .calls + n; clamped = x .clamped + 0 }; entry = e }) (set-getD (x .vars) (c .v) (pos 0)) call
-    ∙ ap (λ (n : ℕ). record { execution = record { place = x .place + 1; vars = x .vars; calls = x .calls + 1; clamped = n }; entry = e }) (add-zero (x .clamped))
+    ∙ ap₂ (λ (vs : List ℤ) (n : ℕ). record { execution = record { place = x .place + 1; vars = vs; calls = x .calls + n; clamped = x .clamped }; entry = e }) (set-getD (x .vars) (c .v) (pos 0)) call
 
 -- a process after a call of its own: its fields are as they were
 abbrev pub called : Process → Process
@@ -71,28 +70,28 @@ module _ (ks : List Key) (s : State) where
 
 -- ---- What a command says
 
--- one law over the word: it says of its exact result whether that lay outside the range
-pub says : (o : Op) (c : Command) (p : ℕ) (a b : ℤ) (e : Entry) (end : ℕ) → effectBy o c p a b e end .outside ≡ layOutside (exactOf o a b)
+-- one law over the word: of its exact result it says whether that lay outside the range
+pub says : (o : Op) (c : Command) (p : ℕ) (a b : ℤ) (e : Entry) (m end : ℕ) → effectBy o c p a b e m end .clamped ≡ m + clampsBy (layOutside (exactOf o a b))
 unfolding exactOf sum difference product quotient computed
-says Set c p a b e end = refl
-says Add c p a b e end = refl
-says Sub c p a b e end = refl
-says Mul c p a b e end = refl
-says Div c p a b e end = go (isZero b)
+says Set c p a b e m end = sym (add-zero m)
+says Add c p a b e m end = refl
+says Sub c p a b e m end = refl
+says Mul c p a b e m end = refl
+says Div c p a b e m end = go (isZero b)
   where
-    go : (t : Bool) → cond t byZero (computed (quotZ a b)) .outside ≡ layOutside (cond t none (exactly (quotZ a b)))
+    go : (t : Bool) → m + cond t byZero (computed (quotZ a b)) .clamped ≡ m + clampsBy (layOutside (cond t none (exactly (quotZ a b))))
     go true = refl
     go false = refl
-says Read c p a b e end = refl
-says Has c p a b e end = refl
-says Put c p a b e end = refl
-says Drop c p a b e end = refl
-says IfNeg c p a b e end = refl
-says IfZero c p a b e end = refl
-says Jump c p a b e end = refl
-says Receive c p a b e end = refl
-says Send c p a b e end = refl
-says Stop c p a b e end = refl
+says Read c p a b e m end = sym (add-zero m)
+says Has c p a b e m end = sym (add-zero m)
+says Put c p a b e m end = sym (add-zero m)
+says Drop c p a b e m end = sym (add-zero m)
+says IfNeg c p a b e m end = sym (add-zero m)
+says IfZero c p a b e m end = sym (add-zero m)
+says Jump c p a b e m end = sym (add-zero m)
+says Receive c p a b e m end = sym (add-zero m)
+says Send c p a b e m end = sym (add-zero m)
+says Stop c p a b e m end = sym (add-zero m)
 
 -- ---- Turns
 
@@ -201,7 +200,7 @@ clamped =
       first = refl;
       stepped = λ n c p.
           let x = p .execution in
-          ap (λ (b : Bool). x .clamped + clampsBy b) (says (c .op) c (x .place) (variable x (c .v)) (variable x (c .w)) (entry p (c .k)) n);
+          says (c .op) c (x .place) (variable x (c .v)) (variable x (c .w)) (entry p (c .k)) (x .clamped) n;
       most = λ c x. one-result (layOutside (exactOf (c .op) (variable x (c .v)) (variable x (c .w))));
     }
   where

@@ -1,5 +1,5 @@
 -- The arithmetic of the commands, over the integers.
-use Prim.Native.Nat.{pred, zero, suc}
+use Prim.Native.Nat.{ℕ, pred, zero, suc}
 use lib.{IntN.ℤ, IntN.negsuc, IntN.pos, IntN._+ℤ_, IntN._-ℤ_, IntN._*ℤ_, Signed.ltZ, Signed.quotZ}
 use mathlib.Core.Bool.{cond, Bool, true, false}
 use Rattle.model.specs.{Limits.leastNumber, Limits.greatestNumber, Data.Computed}
@@ -24,9 +24,14 @@ isZero (negsuc n) = false
 unfoldable pub outside : ℤ → Bool
 outside z = cond (ltZ z least) true (ltZ greatest z)
 
+-- it is said by a number: one clamped result, or none
+abbrev pub clampsBy : Bool → ℕ
+clampsBy true = 1
+clampsBy false = 0
+
 -- what is stored of an exact result, and what is said of it
 unfoldable pub computed : ℤ → Computed
-computed z = record { value = clamp z; outside = outside z }
+computed z = record { value = clamp z; clamped = clampsBy (outside z) }
 
 -- "v becomes v + w, v - w, v times w, clamped to the nearest end of the range"
 unfoldable pub sum : ℤ → ℤ → Computed
@@ -40,7 +45,7 @@ product a b = computed (a *ℤ b)
 
 -- "a zero divisor gives 0"; Note 3: "a zero divisor doesn't count"
 abbrev pub byZero : Computed
-byZero = record { value = pos 0; outside = false }
+byZero = record { value = pos 0; clamped = 0 }
 
 -- "quotient cut toward zero and clamped"
 unfoldable pub quotient : ℤ → ℤ → Computed

@@ -6,9 +6,9 @@ use mathlib.Core.Logic.{_≢_}
 use mathlib.Core.Bool.{Bool, true, false, cond}
 use mathlib.Core.List.{List, [], _∷_, _++_}
 use lib.{IntN.ℤ, IntN.negsuc, IntN.pos, IntN._+ℤ_, IntN._-ℤ_, IntN._*ℤ_, ListN.replicate, Signed.quotZ}
-use Rattle.model.specs.{Arith.least, Arith.outside, Arith.computed, Arith.quotient, Arith.isZero, Text.bytes, Command.blank, Job.Job, Sheet.accepted, Sheet.readSheet}
-use Rattle.model.specs.{Step.variable, Step.effectOf, Step.clampsBy, State.Process, State.command, State.process, Run.stateAfter, Answer.numbersOf, Answer.runSheet, Secrecy.Alike}
-use Rattle.model.specs.{Examples.Example, Examples.prints, Examples.sheetA, Examples.lentByRunsheet}
+use Rattle.model.specs.{Arith.least, Arith.outside, Arith.clampsBy, Arith.computed, Arith.quotient, Arith.isZero, Text.bytes, Command.blank, Job.Job, Sheet.accepted, Sheet.readSheet}
+use Rattle.model.specs.{Step.variable, Step.effectOf, State.Process, State.command, State.process, Run.stateAfter, Answer.numbersOf, Answer.runSheet, Secrecy.Alike}
+use Rattle.model.specs.{Examples.Example, Examples.prints, Examples.lentByRunsheet}
 use Rattle.model.specs.Data.{Entry, Number, Secret, Op, Set, Add, Sub, Mul, Div, Read, Has, Put, Drop, IfNeg, IfZero, Jump, Receive, Send, Stop, Command, Low, High}
 
 -- ---- "Each of `add`, `sub`, `mul` and `div` shall say whether its exact result lay outside the range"
@@ -40,18 +40,18 @@ abbrev pub layOutside : Exact → Bool
 layOutside (exactly z) = outside z
 layOutside none = false
 
--- What a command says is so, whatever its word; and the value of its exact result is the one that is stored
-pub record Says (c : Command) (p : ℕ) (a b : ℤ) (e : Entry) (end : ℕ) : Type 0 where
-  pub says : effectOf c p a b e end .outside ≡ layOutside (exactOf (c .op) a b)
-  pub stores : (z : ℤ) → exactOf (c .op) a b ≡ exactly z → effectOf c p a b e end .value ≡ computed z .value
+-- What a command says is so, whatever its word: of m clamped results it makes one more, or none; and the value of its exact result is the one that is stored
+pub record Says (c : Command) (p : ℕ) (a b : ℤ) (e : Entry) (m end : ℕ) : Type 0 where
+  pub says : effectOf c p a b e m end .clamped ≡ m + clampsBy (layOutside (exactOf (c .op) a b))
+  pub stores : (z : ℤ) → exactOf (c .op) a b ≡ exactly z → effectOf c p a b e m end .value ≡ computed z .value
 
 abbrev pub AlwaysSays : Type 0
-AlwaysSays = (c : Command) (p : ℕ) (a b : ℤ) (e : Entry) (end : ℕ) → Says c p a b e end
+AlwaysSays = (c : Command) (p : ℕ) (a b : ℤ) (e : Entry) (m end : ℕ) → Says c p a b e m end
 
--- An exact result lay outside the range exactly where it is not the value that is stored
+-- An exact result lay outside the range exactly where it is not the value that is stored; that is one clamped result
 pub record Clamps (z : ℤ) : Type 0 where
-  pub outside : computed z .outside ≡ true → computed z .value ≢ z
-  pub inside : computed z .outside ≡ false → computed z .value ≡ z
+  pub beyond : outside z ≡ true → (computed z .value ≢ z) × (computed z .clamped ≡ 1)
+  pub within : outside z ≡ false → (computed z .value ≡ z) × (computed z .clamped ≡ 0)
 
 abbrev pub AlwaysClamps : Type 0
 AlwaysClamps = (z : ℤ) → Clamps z
@@ -65,7 +65,7 @@ pub record AtTheEnds : Type 0 where
 
 -- Of `div`, on two numbers of the range, only that of the least number by -1 did
 abbrev pub OneQuotient : Type 0
-OneQuotient = (a b : ℤ) → outside a ≡ false → outside b ≡ false → quotient a b .outside ≡ true → (a ≡ least) × (b ≡ negsuc 0)
+OneQuotient = (a b : ℤ) → outside a ≡ false → outside b ≡ false → quotient a b .clamped ≡ 1 → (a ≡ least) × (b ≡ negsuc 0)
 
 -- ---- "the clamped results of the low execution alone"
 
@@ -109,14 +109,12 @@ unfoldable pub sums : String → List ℕ
 sums commands = bytes "sheet=1\nkeys=1\nsecret=0:0\n" ++ (bytes commands ++ bytes "msg=0:2147483647\nturns=LLLLLLLL\n")
 
 -- Two sums beyond the greatest number, and a difference that is not; the least number by -1, a zero divisor, and the square of an end; a sum that just
--- reaches the greatest number; the high execution's clamped result; refusals; and sheet A
+-- reaches the greatest number; the high execution's clamped result; a refusal. (Sheet A and the empty sheet are P1 and P11.)
 unfoldable pub examples : List Example
 examples =
     prints (sums "do=set 0 2147483647\ndo=set 1 1\ndo=add 0 1\ndo=add 0 1\ndo=sub 0 1\n") lentByRunsheet "end=0 0 5 5 0 0 2\n"
     ∷ prints (sums "do=set 0 -2147483648\ndo=set 1 -1\ndo=div 0 1\ndo=div 0 2\ndo=mul 0 0\n") lentByRunsheet "end=0 0 5 5 0 0 1\n"
     ∷ prints (sums "do=set 0 2147483646\ndo=set 1 1\ndo=add 0 1\ndo=stop\n") lentByRunsheet "end=0 0 4 4 0 0 0\n"
     ∷ prints (doubling "2147483647") lentByRunsheet "end=0 0 7 4 0 1 0\n"
-    ∷ prints [] lentByRunsheet "end=2 1 0 0 0 0 0\n"
     ∷ prints (sums "do=jump 2\n") lentByRunsheet "end=7 4 0 0 0 0 0\n"
-    ∷ prints (sheetA "0:1500,1:1480" "LHLHLHLHLH") lentByRunsheet "sent=0006 +0000001500 +0000001480\nend=0 0 9 5 34 1 0\n"
     ∷ []

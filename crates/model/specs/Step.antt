@@ -2,7 +2,7 @@
 use mathlib.Core.List.{List, [], _∷_}
 use lib.{IntN.ℤ, IntN.pos, ListN.length, ListN.getD, ListN.set, ListN.replicate, Signed.ltZ}
 use Prim.Native.Nat.{ℕ, _+_}
-use mathlib.Core.Bool.{Bool, true, false, cond}
+use mathlib.Core.Bool.{cond}
 use Rattle.model.specs.{Limits.variables, Arith.sum, Arith.difference, Arith.product, Arith.quotient, Arith.isZero}
 use Rattle.model.specs.Data.{Entry, Absent, Number, Op, Set, Add, Sub, Mul, Div, Read, Has, Put, Drop, IfNeg, IfZero, Jump, Receive, Send, Stop, Command, Call}
 use Rattle.model.specs.Data.{Neither, Receives, Sends, Computed, Execution, Effect}
@@ -30,35 +30,36 @@ abbrev pub begun : Execution
 begun = record { place = 0; vars = replicate variables (pos 0); calls = 0; clamped = 0 }
 
 -- What a command does, in numbers and one entry. Where it gives its variable no value, that is the one it holds; where it leaves the entry, that is
--- the one it finds.
-abbrev pub made : ℕ → ℤ → Entry → Effect
-made p z e = record { place = p; value = z; outside = false; entry = e }
+-- the one it finds. Where it is none of the four operations, the clamped results are as many as there were.
+abbrev pub made : ℕ → ℤ → Entry → ℕ → Effect
+made p z e m = record { place = p; value = z; clamped = m; entry = e }
 
--- and what one of the four operations does
-abbrev pub computes : ℕ → Computed → Entry → Effect
-computes p r e = record { place = p; value = r .value; outside = r .outside; entry = e }
+-- what one of the four does, where there were m clamped results before it
+abbrev pub computes : ℕ → Computed → Entry → ℕ → Effect
+computes p r e m = record { place = p; value = r .value; clamped = m + r .clamped; entry = e }
 
 -- The meanings of the words, in the table's order: of a command at the place p, in a program that ends at the place end; a and b are what the variables
--- v and w hold, e is the entry at k. A call only moves the execution on here: what else it does is said with the turns.
-abbrev pub effectBy : Op → Command → ℕ → ℤ → ℤ → Entry → ℕ → Effect
-effectBy Set c p a b e end = made (p + 1) (c .n) e
-effectBy Add c p a b e end = computes (p + 1) (sum a b) e
-effectBy Sub c p a b e end = computes (p + 1) (difference a b) e
-effectBy Mul c p a b e end = computes (p + 1) (product a b) e
-effectBy Div c p a b e end = computes (p + 1) (quotient a b) e
-effectBy Read c p a b e end = made (p + 1) (numberOf e) e
-effectBy Has c p a b e end = made (p + 1) (presence e) e
-effectBy Put c p a b e end = made (p + 1) a (Number a)
-effectBy Drop c p a b e end = made (p + 1) a Absent
-effectBy IfNeg c p a b e end = made (cond (ltZ a (pos 0)) (c .t) (p + 1)) a e
-effectBy IfZero c p a b e end = made (cond (isZero a) (c .t) (p + 1)) a e
-effectBy Jump c p a b e end = made (c .t) a e
-effectBy Receive c p a b e end = made (p + 1) a e
-effectBy Send c p a b e end = made (p + 1) a e
-effectBy Stop c p a b e end = made end a e
+-- v and w hold, e is the entry at k, m the execution's clamped results so far. A call only moves the execution on here: what else it does is said with the
+-- turns.
+abbrev pub effectBy : Op → Command → ℕ → ℤ → ℤ → Entry → ℕ → ℕ → Effect
+effectBy Set c p a b e m end = made (p + 1) (c .n) e m
+effectBy Add c p a b e m end = computes (p + 1) (sum a b) e m
+effectBy Sub c p a b e m end = computes (p + 1) (difference a b) e m
+effectBy Mul c p a b e m end = computes (p + 1) (product a b) e m
+effectBy Div c p a b e m end = computes (p + 1) (quotient a b) e m
+effectBy Read c p a b e m end = made (p + 1) (numberOf e) e m
+effectBy Has c p a b e m end = made (p + 1) (presence e) e m
+effectBy Put c p a b e m end = made (p + 1) a (Number a) m
+effectBy Drop c p a b e m end = made (p + 1) a Absent m
+effectBy IfNeg c p a b e m end = made (cond (ltZ a (pos 0)) (c .t) (p + 1)) a e m
+effectBy IfZero c p a b e m end = made (cond (isZero a) (c .t) (p + 1)) a e m
+effectBy Jump c p a b e m end = made (c .t) a e m
+effectBy Receive c p a b e m end = made (p + 1) a e m
+effectBy Send c p a b e m end = made (p + 1) a e m
+effectBy Stop c p a b e m end = made end a e m
 
-abbrev pub effectOf : Command → ℕ → ℤ → ℤ → Entry → ℕ → Effect
-effectOf c p a b e end = effectBy (c .op) c p a b e end
+abbrev pub effectOf : Command → ℕ → ℤ → ℤ → Entry → ℕ → ℕ → Effect
+effectOf c p a b e m end = effectBy (c .op) c p a b e m end
 
 -- "`receive`, `send`: the two calls"
 unfoldable pub callOf : Op → Call
@@ -87,15 +88,10 @@ kindsBy Sends = Sends ∷ []
 abbrev pub callsBy : Call → ℕ
 callsBy k = length (kindsBy k)
 
--- the clamped results of a command, none or one: where its exact result lay outside the range
-abbrev pub clampsBy : Bool → ℕ
-clampsBy true = 1
-clampsBy false = 0
-
--- the next record after a command of this kind of call: its variable has the value of its effect, the execution goes on at its place, and a clamped
--- result is counted
+-- the next record after a command of this kind of call: its variable has the value of its effect, and the execution goes on at its place, with the clamped
+-- results by then
 abbrev pub afterOf : Execution → ℕ → Call → Effect → Execution
-afterOf x v k f = record { place = f .place; vars = set (x .vars) v (f .value); calls = x .calls + callsBy k; clamped = x .clamped + clampsBy (f .outside) }
+afterOf x v k f = record { place = f .place; vars = set (x .vars) v (f .value); calls = x .calls + callsBy k; clamped = f .clamped }
 
 -- What a command leaves: the next record of its execution, and the entry at its key
 pub record Stepped : Type 0 where
@@ -108,4 +104,4 @@ steppedBy x v k f = record { execution = afterOf x v k f; entry = f .entry }
 
 -- "Each command is one step.": in a program of n commands
 unfoldable pub does : ℕ → Command → Execution → Entry → Stepped
-does n c x e = steppedBy x (c .v) (callOf (c .op)) (effectOf c (x .place) (variable x (c .v)) (variable x (c .w)) e n)
+does n c x e = steppedBy x (c .v) (callOf (c .op)) (effectOf c (x .place) (variable x (c .v)) (variable x (c .w)) e (x .clamped) n)

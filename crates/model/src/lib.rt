@@ -5,7 +5,7 @@
 ghost use mathlib.Core.Path.{_≡_};
 ghost use Prim.Native.Nat.{_<_, _≤_};
 ghost use lib.ListN.{replicate};
-ghost use Rattle.model.specs.{Limits.variables, Command.blank, Step.begun as Execution·begun, Step.afterOf, Step.calledOf, Step.callsBy, Step.clampsBy, Stored.keyCapacity};
+ghost use Rattle.model.specs.{Limits.variables, Command.blank, Step.begun as Execution·begun, Step.afterOf, Step.calledOf, Step.callsBy, Stored.keyCapacity};
 ghost use Rattle.model.specs.{Stored.commandCapacity, Stored.messageCapacity, Stored.openSlot, Stored.absentSlot, Stored.blankLine, Stored.nothingStored};
 ghost use Rattle.model.specs.Form.{formOne};
 ghost use Rattle.model.specs.declared.Op.the-variants.{Stop};
@@ -156,17 +156,10 @@ fn calls_by(call: Call) -> usize
     }
 }
 
-// What one of the four operations gives: the value that is stored, and whether its exact result lay outside the range.
+// What one of the four operations gives: the value that is stored, and 1 if its exact result lay outside the range, else 0.
 pub struct Computed {
     pub value: i32,
-    pub outside: bool,
-}
-
-// How many clamped results that makes.
-fn clamps_by(outside: bool) -> usize
-    ensures { λ r. ⌜ (r ≡ clampsBy outside) × (r ≤ 1) ⌝ }
-{
-    if outside { 1 } else { 0 }
+    pub clamped: usize,
 }
 
 // An execution's level, which is also a letter of turns: L or H.
@@ -175,12 +168,13 @@ pub enum Level {
     High,
 }
 
-// The record of one execution: its place, its variables, the calls that it has made, and its clamped results.
+// The record of one execution: its place, the calls that it has made, its clamped results, and its variables. These come last: the compiler knows that a
+// store into an array changes nothing before it.
 pub struct Execution {
     pub place: usize,
-    pub vars: [i32; VARIABLES],
     pub calls: usize,
     pub clamped: usize,
+    pub vars: [i32; VARIABLES],
 }
 
 impl Execution {
@@ -190,9 +184,9 @@ impl Execution {
     {
         Execution {
             place: 0,
-            vars: [0i32; VARIABLES],
             calls: 0,
             clamped: 0,
+            vars: [0i32; VARIABLES],
         }
     }
 
@@ -206,17 +200,16 @@ impl Execution {
         self
     }
 
-    // The next record after a command of this kind of call: the variable v has the value of its effect, the execution goes on at its place, and a clamped result
-    // is counted.
+    // The next record after a command of this kind of call: the variable v has the value of its effect, and the execution goes on at its place, with the clamped
+    // results by then.
     //
     // The places of the array are constants here and in `run_step::holds`, so that a compiler that sees both stores the one change and copies no record.
     pub fn after(mut self, v: usize, call: Call, effect: Effect) -> Execution
-        requires { ⌜ (v < variables) × (self .calls < 4294967296) × (self .clamped < 4294967296) ⌝ }
+        requires { ⌜ (v < variables) × (self .calls < 4294967296) ⌝ }
         ensures { λ r. ⌜ r ≡ afterOf self v call effect ⌝ }
     {
         let value = effect.value;
         let calls = self.calls + calls_by(call);
-        let clamped = self.clamped + clamps_by(effect.outside);
         match v {
             0 => self.vars[0] = value,
             1 => self.vars[1] = value,
@@ -229,16 +222,16 @@ impl Execution {
         }
         self.place = effect.place;
         self.calls = calls;
-        self.clamped = clamped;
+        self.clamped = effect.clamped;
         self
     }
 }
 
-// What a command does: the next place, the value for its variable, whether that stands for an exact result outside the range, and the entry for its key.
+// What a command does: the next place, the value for its variable, the clamped results of its execution by then, and the entry for its key.
 pub struct Effect {
     pub place: usize,
     pub value: i32,
-    pub outside: bool,
+    pub clamped: usize,
     pub entry: Entry,
 }
 

@@ -16,7 +16,7 @@ module _ {z : ℤ} (fits : SFits w32 z) where
   pub widens : SFits w64 (toZ w32 (ofZ w32 z))
   widens = rw (toZ-ofZ fits) (sfits-widen tt fits)
 
-  widened : toZ w64 (ofZ w64 (toZ w32 (ofZ w32 z))) ≡ z
+  pub widened : toZ w64 (ofZ w64 (toZ w32 (ofZ w32 z))) ≡ z
   widened = rw (toZ-ofZ fits) (toZ-ofZ {w = w64} (sfits-widen tt fits))
 
 -- what a call returned, read back from its bits
@@ -86,18 +86,27 @@ module _ (op : ℤ → ℤ → ℤ) {a b : ℤ} (fa : SFits w32 a) (fb : SFits w
   pub answered : {r : Computed} → r ≡ computed (toZ w64 (ofZ w64 (op (wide a) (wide b)))) → r ≡ computed (op a b)
   answered e = e ∙ ap computed (ap (λ (z : ℤ). toZ w64 (ofZ w64 z)) operands ∙ toZ-ofZ {w = w64} fits)
 
+-- the cases of `clamp`
+pub clamp-low : (z : ℤ) → ltZ z least ≡ true → least ≡ clamp z
+unfolding clamp
+clamp-low z h = simp h
+
+pub clamp-high : (z : ℤ) → ltZ z least ≡ false → ltZ greatest z ≡ true → greatest ≡ clamp z
+unfolding clamp
+clamp-high z h k = simp (h, k)
+
+pub clamp-in : (z : ℤ) → ltZ z least ≡ false → ltZ greatest z ≡ false → z ≡ clamp z
+unfolding clamp
+clamp-in z h k = simp (h, k)
+
 -- the cases of `computed`
-pub computed-low : (z : ℤ) → ltZ z least ≡ true → record { value = least; outside = true } ≡ computed z
-unfolding computed clamp outside
-computed-low z h = simp h
+pub computed-within : (z : ℤ) → outside z ≡ false → record { value = clamp z; clamped = 0 } ≡ computed z
+unfolding computed
+computed-within z h = simp h
 
-pub computed-high : (z : ℤ) → ltZ z least ≡ false → ltZ greatest z ≡ true → record { value = greatest; outside = true } ≡ computed z
-unfolding computed clamp outside
-computed-high z h k = simp (h, k)
-
-pub computed-in : (z : ℤ) → ltZ z least ≡ false → ltZ greatest z ≡ false → record { value = z; outside = false } ≡ computed z
-unfolding computed clamp outside
-computed-in z h k = simp (h, k)
+pub computed-beyond : (z : ℤ) → outside z ≡ true → record { value = clamp z; clamped = 1 } ≡ computed z
+unfolding computed
+computed-beyond z h = simp h
 
 pub in-fits : (z : ℤ) → ltZ z least ≡ false → ltZ greatest z ≡ false → SFits w32 z
 in-fits (pos n) h k = record { sfits = omega (arith, ltb-false greatestNumber n k) }

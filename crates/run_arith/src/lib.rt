@@ -3,33 +3,35 @@ use model::Computed;
 use model::GREATEST_NUMBER;
 use model::LEAST_NUMBER;
 ghost use mathlib.Core.Path.{_≡_};
-ghost use Rattle.model.specs.Arith.{computed as Arith·computed, sum, difference, product, quotient};
+ghost use Rattle.model.specs.Arith.{clamp as Arith·clamp, computed as Arith·computed, sum, difference, product, quotient};
 
 // The two ends of the range.
 const LEAST: i64 = 0 - LEAST_NUMBER as i64;
 
 const GREATEST: i64 = GREATEST_NUMBER as i64;
 
-// The number of the range that is nearest to the exact result x, and whether x lies outside.
+// The number of the range that is nearest to x.
+fn clamp(x: i64) -> i32
+    ensures { λ r. ⌜ r ≡ Arith·clamp x ⌝ }
+{
+    if x < LEAST {
+        return LEAST as i32;
+    }
+    if GREATEST < x {
+        return GREATEST as i32;
+    }
+    x as i32
+}
+
+// What is stored of the exact result x, and whether that is another number: then x lay outside the range.
 fn computed(x: i64) -> Computed
     ensures { λ r. ⌜ r ≡ Arith·computed x ⌝ }
 {
-    if x < LEAST {
-        return Computed {
-            value: LEAST as i32,
-            outside: true,
-        };
+    let value = clamp(x);
+    if value as i64 == x {
+        return Computed { value, clamped: 0 };
     }
-    if GREATEST < x {
-        return Computed {
-            value: GREATEST as i32,
-            outside: true,
-        };
-    }
-    Computed {
-        value: x as i32,
-        outside: false,
-    }
+    Computed { value, clamped: 1 }
 }
 
 pub fn add(a: i32, b: i32) -> Computed
@@ -57,7 +59,7 @@ pub fn div(a: i32, b: i32) -> Computed
     if b == 0 {
         return Computed {
             value: 0,
-            outside: false,
+            clamped: 0,
         };
     }
     computed(a as i64 / b as i64)

@@ -171,14 +171,14 @@ module _ {j : StoredJob} (ok : Ready j) (sent : List Sent) (h : Held) where
       -- what its variables hold, i its kind, and z the value that comes from the next record
       pub command-turn : Free (role l) → (k v w : ℕ) → k ≡ commandOf .k → v ≡ commandOf .v → w ≡ commandOf .w
           → (a b : ℤ) → a ≡ variable x v → b ≡ variable x w → (e : Entry) → e ≡ side l (getD (h .message) k absentField)
-          → (r : Effect) → r ≡ effectOf commandOf (x .place) a b e (j .«command_count»)
+          → (r : Effect) → r ≡ effectOf commandOf (x .place) a b e (x .clamped) (j .«command_count»)
           → (i : Call) → i ≡ callOf (commandOf .op) → (next : Execution) → next ≡ afterOf x v i r → (z : ℤ) → z ≡ variable next v
           → (f : Field) → f ≡ withSide l (r .entry) (getD (h .message) k absentField) → (c : Clock) → c ≡ ticked l (h .clock) → (m : List ℕ)
           → Turned j l sent h (commanded l (changedBy x v z next) k f c h) m m
       unfolding does
       command-turn free k v w ek ev ew a b ea eb e ee r er i ei next enext z ez f ef c ec m =
           let whole : Stepped = steppedBy x v i r in
-          let effect : ℤ → ℤ → Effect = λ p q. effectOf commandOf (x .place) p q e (j .«command_count») in
+          let effect : ℤ → ℤ → Effect = λ p q. effectOf commandOf (x .place) p q e (x .clamped) (j .«command_count») in
           let effect-is : r ≡ effect (variable x (commandOf .v)) (variable x (commandOf .w)) = er ∙ ap₂ effect (ea ∙ ap (variable x) ev) (eb ∙ ap (variable x) ew) in
           let does-is : whole ≡ does (j .«command_count») commandOf x e =
           ap₂ (λ (o : ℕ) (g : Effect). steppedBy x o i g) ev effect-is

@@ -113,7 +113,7 @@ pub fn run_job(job: StoredJob, out: &mut [u8]) -> Answer
                         let v = index(c.v);
                         let w = index(c.w);
                         let e = side(f, Level::Low);
-                        let r = effect_at(c, p, low.vars[v], low.vars[w], e, count);
+                        let r = effect_at(c, p, low.vars[v], low.vars[w], e, low.clamped, count);
                         let next = low.after(v, Call::Neither, r);
                         low.vars[v] = holds(next, v);
                         low.place = next.place;
@@ -145,7 +145,7 @@ pub fn run_job(job: StoredJob, out: &mut [u8]) -> Answer
                         let v = index(c.v);
                         let w = index(c.w);
                         let e = side(f, Level::High);
-                        let r = effect_at(c, p, high.vars[v], high.vars[w], e, count);
+                        let r = effect_at(c, p, high.vars[v], high.vars[w], e, high.clamped, count);
                         let next = high.after(v, call, r);
                         high.vars[v] = holds(next, v);
                         high.place = next.place;

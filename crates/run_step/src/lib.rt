@@ -12,7 +12,7 @@ use run_arith::mul;
 use run_arith::sub;
 ghost use mathlib.Core.Path.{_≡_};
 ghost use mathlib.Core.Bool.{cond};
-ghost use Prim.Native.Nat.{_<_};
+ghost use Prim.Native.Nat.{_<_, _≤_};
 ghost use lib.{IntN.pos, Signed.ltZ};
 ghost use Rattle.model.specs.{Limits.variables, Arith.isZero, Step.variable, Step.numberOf, Step.presence, Step.made as Effect·made, Step.computes as Effect·computes, Step.effectOf, Step.callOf};
 
@@ -59,51 +59,52 @@ fn if_zero(a: i32, t: usize, p: usize) -> usize
     if a == 0 { t } else { p }
 }
 
-fn made(place: usize, value: i32, entry: Entry) -> Effect
-    ensures { λ r. ⌜ r ≡ Effect·made place value entry ⌝ }
+fn made(place: usize, value: i32, entry: Entry, clamped: usize) -> Effect
+    ensures { λ r. ⌜ r ≡ Effect·made place value entry clamped ⌝ }
 {
     Effect {
         place,
         value,
-        outside: false,
+        clamped,
         entry,
     }
 }
 
-fn computes(place: usize, result: Computed, entry: Entry) -> Effect
-    ensures { λ r. ⌜ r ≡ Effect·computes place result entry ⌝ }
+fn computes(place: usize, result: Computed, entry: Entry, clamped: usize) -> Effect
+    requires { ⌜ (clamped < 4294967296) × (result .clamped ≤ 1) ⌝ }
+    ensures { λ r. ⌜ r ≡ Effect·computes place result entry clamped ⌝ }
 {
     Effect {
         place,
         value: result.value,
-        outside: result.outside,
+        clamped: clamped + result.clamped,
         entry,
     }
 }
 
-// A command at the place p of a program that ends at the place end; a and b are what its variables hold, e is the entry at its key.
-pub fn effect_at(c: Command, p: usize, a: i32, b: i32, e: Entry, end: usize) -> Effect
-    requires { ⌜ p < end ⌝ }
-    ensures { λ r. ⌜ r ≡ effectOf c p a b e end ⌝ }
+// A command at the place p of a program that ends at the place end; a and b are what its variables hold, e is the entry at its key, m the clamped results so far.
+pub fn effect_at(c: Command, p: usize, a: i32, b: i32, e: Entry, m: usize, end: usize) -> Effect
+    requires { ⌜ (p < end) × (m < 4294967296) ⌝ }
+    ensures { λ r. ⌜ r ≡ effectOf c p a b e m end ⌝ }
 {
     let op = c.op;
     let q = p + 1;
     match op {
-        Op::Set => made(q, c.n, e),
-        Op::Add => computes(q, add(a, b), e),
-        Op::Sub => computes(q, sub(a, b), e),
-        Op::Mul => computes(q, mul(a, b), e),
-        Op::Div => computes(q, div(a, b), e),
-        Op::Read => made(q, number_of(e), e),
-        Op::Has => made(q, presence_of(e), e),
-        Op::Put => made(q, a, Entry::Number(a)),
-        Op::Drop => made(q, a, Entry::Absent),
-        Op::IfNeg => made(if_neg(a, target(c.t), q), a, e),
-        Op::IfZero => made(if_zero(a, target(c.t), q), a, e),
-        Op::Jump => made(target(c.t), a, e),
-        Op::Receive => made(q, a, e),
-        Op::Send => made(q, a, e),
-        Op::Stop => made(end, a, e),
+        Op::Set => made(q, c.n, e, m),
+        Op::Add => computes(q, add(a, b), e, m),
+        Op::Sub => computes(q, sub(a, b), e, m),
+        Op::Mul => computes(q, mul(a, b), e, m),
+        Op::Div => computes(q, div(a, b), e, m),
+        Op::Read => made(q, number_of(e), e, m),
+        Op::Has => made(q, presence_of(e), e, m),
+        Op::Put => made(q, a, Entry::Number(a), m),
+        Op::Drop => made(q, a, Entry::Absent, m),
+        Op::IfNeg => made(if_neg(a, target(c.t), q), a, e, m),
+        Op::IfZero => made(if_zero(a, target(c.t), q), a, e, m),
+        Op::Jump => made(target(c.t), a, e, m),
+        Op::Receive => made(q, a, e, m),
+        Op::Send => made(q, a, e, m),
+        Op::Stop => made(end, a, e, m),
     }
 }
 

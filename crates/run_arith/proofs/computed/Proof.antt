@@ -1,27 +1,40 @@
--- The three cases; the machine reads x back from its bits.
-use mathlib.Core.Path.{_≡_}
+-- The value that is stored tells whether the exact result lay outside; the machine compares the two by their bits.
+use mathlib.Core.Path.{_≡_, sym, ap, _∙_}
 use borrow.Author.Needs.{needs}
+use lib.IntN.{ℤ}
 use mir.{Syntax.w32, Syntax.w64, Val.SFits, Val.toZ, Val.ofZ, Facts.toZ-ofZ}
-use Rattle.run_arith.proofs.Laws.{computed-low, computed-high, computed-in, in-fits}
+use Rattle.model.specs.Arith.{clamp}
+use Rattle.model.proofs.Clamped.{tells-within, tells-beyond}
+use Rattle.run_arith.proofs.Laws.{widens, widened, computed-within, computed-beyond}
 use Rattle.run_arith.proofs.computed.Statement.{statement}
 use Rattle.run_arith.proofs.computed.Tie as tie
 
-back : (s : tie.Start) → toZ w64 (ofZ w64 (s .args .x)) ≡ s .args .x
-back s = toZ-ofZ {w = w64} (s .fits .x)
+module _ (c : tie.After-clamp) where
+  abbrev x : ℤ
+  x = c .before .args .x
+
+  fits : SFits w32 (c .clamp .result)
+  fits = record { sfits = c .clamp .ok }
+
+  back : toZ w64 (ofZ w64 x) ≡ x
+  back = toZ-ofZ {w = w64} (c .before .fits .x)
+
+  value-is : c .clamp .result ≡ clamp x
+  value-is = c .clamp .ensures ∙ ap clamp back
+
+  stored : toZ w32 (ofZ w32 (c .clamp .result)) ≡ clamp x
+  stored = toZ-ofZ {w = w32} fits ∙ value-is
 
 returns : tie.Need-returns
-returns c = computed-low _ (rw (back (c .before)) at (c .if1 .taken))
+returns c =
+    let b = c .before in
+    let same : clamp (x b) ≡ x b = sym (value-is b) ∙ sym (widened (fits b)) ∙ ap (toZ w64) (c .if1 .taken) ∙ back b in
+    rw (stored b) (computed-within (x b) (tells-within (x b) same))
 
 returns-2 : tie.Need-returns-2
-returns-2 c = let e = back (c .before .before) in computed-high _ (rw e at (c .before .if1 .left)) (rw e at (c .if2 .taken))
-
-inside : (c : tie.Else2) → SFits w32 (c .before .before .args .x)
-inside c = let e = back (c .before .before) in in-fits _ (rw e at (c .before .if1 .left)) (rw e at (c .if2 .left))
-
-returns-3 : tie.Need-returns-3
-returns-3 c =
-    let e = back (c .before .before) in
-    rw (e, toZ-ofZ {w = w32} (inside c)) (computed-in _ (rw e at (c .before .if1 .left)) (rw e at (c .if2 .left)))
+returns-2 c =
+    let b = c .before in
+    rw (stored b) (computed-beyond (x b) (tells-beyond (x b) (λ same. c .if1 .left (ap (ofZ w64) (stored b ∙ same)))))
 
 pub computed-spec : {M : Type 1} → statement M
-computed-spec = tie.close (tie.spec (λ c. search needs) returns (λ c. search needs) returns-2 (λ c. rw (back (c .before .before)) (inside c)) returns-3)
+computed-spec = tie.close (tie.spec (λ c κs. search needs) (λ c. widens (fits c)) returns returns-2)

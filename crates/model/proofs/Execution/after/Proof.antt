@@ -1,5 +1,5 @@
 -- In each arm the place is the constant that the arm tests; the rest of the record is the same in all.
-use mathlib.Core.Path.{_≡_, ap₂, sym, _∙_}
+use mathlib.Core.Path.{_≡_, ap, ap₂, sym, _∙_}
 use Prim.Native.Nat.{ℕ, _+_}
 use lib.{IntN.ℤ, ListN.set}
 use mir.{Syntax.w32, Val.toZ, Val.ofZ, ValLaws.toZ-ofZ}
@@ -9,27 +9,28 @@ use Rattle.model.proofs.Variables.{last-place}
 use Rattle.model.proofs.Execution.after.Statement.{statement}
 use Rattle.model.proofs.Execution.after.Tie as tie
 
-abbrev start : tie.After-clamps-by → tie.Start
-start c = c .before .before .before
+abbrev start : tie.After-calls-by → tie.Start
+start c = c .before .before
 
-module _ (c : tie.After-clamps-by) where
-  -- with this value at the place k, and so many calls and clamped results more
-  abbrev stored : ℕ → ℤ → ℕ → ℕ → Execution
-  stored k z n m =
+module _ (c : tie.After-calls-by) where
+  -- with this value at the place k, and so many calls more
+  abbrev stored : ℕ → ℤ → ℕ → Execution
+  stored k z n =
       let x = start c .args .t1 in
-      record { place = start c .args .effect .place; vars = set (x .vars) k z; calls = x .calls + n; clamped = x .clamped + m }
+      let f = start c .args .effect in
+      record { place = f .place; vars = set (x .vars) k z; calls = x .calls + n; clamped = f .clamped }
 
-  arm : (k : ℕ) → start c .args .v ≡ k → stored k (toZ w32 (ofZ w32 (start c .args .effect .value))) (c .before .calls-by .result) (c .clamps-by .result)
+  arm : (k : ℕ) → start c .args .v ≡ k → stored k (toZ w32 (ofZ w32 (start c .args .effect .value))) (c .calls-by .result)
       ≡ afterOf (start c .args .t1) (start c .args .v) (start c .args .call) (start c .args .effect)
   arm k e =
-      ap₂ (λ (i : ℕ) (z : ℤ). stored i z (c .before .calls-by .result) (c .clamps-by .result)) (sym e) (toZ-ofZ w32 (start c .args .effect .value) (search needs))
-      ∙ ap₂ (stored (start c .args .v) (start c .args .effect .value)) (c .before .calls-by .ensures .0) (c .clamps-by .ensures .0)
+      ap₂ (λ (i : ℕ) (z : ℤ). stored i z (c .calls-by .result)) (sym e) (toZ-ofZ w32 (start c .args .effect .value) (search needs))
+      ∙ ap (stored (start c .args .v) (start c .args .effect .value)) (c .calls-by .ensures .0)
 
 pub after-spec : {M : Type 1} → statement M
 after-spec =
     tie.close
     (tie.spec
-    (λ c κs. search needs) (λ c. search needs) (λ c κs. search needs) (λ c. search needs)
+    (λ c κs. search needs) (λ c. search needs)
     (λ c. search needs) (λ c. search needs) (λ c. search needs) (λ c. search needs)
     (λ c. search needs) (λ c. search needs) (λ c. search needs) (λ c. search needs)
     (λ c. arm (c .before) 0 (c .match .keys1))
