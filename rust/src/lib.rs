@@ -109,7 +109,7 @@ impl Answer {
     }
 
     /// The seven numbers in their order.
-    pub fn numbers(&self) -> [u32; 7] {
+    pub fn numbers(&self) -> [u32; ANSWER_BYTES / 4] {
         [
             self.ending,
             self.line,

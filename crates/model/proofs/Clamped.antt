@@ -11,7 +11,7 @@ use Rattle.model.specs.{Limits.greatestNumber, Arith.least, Arith.greate
 use Rattle.model.specs.{Arith.quotient, Arith.isZero, Arith.byZero, Step.effectBy, Secrecy.OwnedBy, Secrecy.Alike, Examples.AllHold, Examples.lentByRunsheet}
 use Rattle.model.specs.Clamped.{Exact, exactly, none, exactOf, AlwaysSays, Clamps, AlwaysClamps, AtTheEnds, OneQuotient, doubling, doublingJob, HighUntold, sums, examples}
 use Rattle.model.specs.Data.{Entry, Absent, Open, Op, Set, Add, Sub, Mul, Div, Read, Has, Put, Drop, IfNeg, IfZero, Jump, Receive, Send, Stop, Command, High}
-use Rattle.model.proofs.{Turn.says, Examples.opened, Secrecy.sheet-secrecy}
+use Rattle.model.proofs.{Turn.says, Turn.one-result, Examples.opened, Secrecy.sheet-secrecy}
 
 -- ---- What a command says and stores
 
@@ -75,19 +75,15 @@ always-clamps z = go (ltZ z least) (ltZ greatest z) refl refl
     go false false eb ea = record { beyond = λ o. absurd (true≢false (sym (rw (eb, ea) at o))); within = λ i. (rw (eb, ea), rw (eb, ea)) }
 
 -- of an operation there is at most one clamped result
-one-result : (t : Bool) → clampsBy t ≤ 1
-one-result true = le-refl 1
-one-result false = zero-le
-
-pub computed-most : (z : ℤ) → computed z .clamped ≤ 1
+pub computed-most : (z : ℤ) → computed z .clamps ≤ 1
 unfolding computed
 computed-most z = one-result (outside z)
 
-pub quotient-most : (a b : ℤ) → quotient a b .clamped ≤ 1
+pub quotient-most : (a b : ℤ) → quotient a b .clamps ≤ 1
 unfolding quotient
 quotient-most a b = go (isZero b)
   where
-    go : (t : Bool) → cond t byZero (computed (quotZ a b)) .clamped ≤ 1
+    go : (t : Bool) → cond t byZero (computed (quotZ a b)) .clamps ≤ 1
     go true = zero-le
     go false = computed-most (quotZ a b)
 
@@ -157,13 +153,17 @@ clamped-outside : (t : Bool) → clampsBy t ≡ 1 → t ≡ true
 clamped-outside true e = refl
 clamped-outside false e = absurd (omega arith)
 
-pub one-quotient : OneQuotient
+only : (a b : ℤ) → outside a ≡ false → quotient a b .clamps ≡ 1 → (a ≡ least) × (b ≡ negsuc 0)
 unfolding quotient computed
-one-quotient a b fa fb o = go (isZero b) o
+only a b fa o = go (isZero b) o
   where
-    go : (t : Bool) → cond t byZero (computed (quotZ a b)) .clamped ≡ 1 → (a ≡ least) × (b ≡ negsuc 0)
+    go : (t : Bool) → cond t byZero (computed (quotZ a b)) .clamps ≡ 1 → (a ≡ least) × (b ≡ negsuc 0)
     go true h = absurd (omega arith)
     go false h = one-outside a b (small a fa) (clamped-outside (outside (quotZ a b)) h)
+
+pub one-quotient : OneQuotient
+unfolding quotient computed outside
+one-quotient = record { does = refl; only = only }
 
 -- ---- The seven numbers
 

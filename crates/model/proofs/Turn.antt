@@ -79,7 +79,7 @@ says Sub c p a b e m end = refl
 says Mul c p a b e m end = refl
 says Div c p a b e m end = go (isZero b)
   where
-    go : (t : Bool) → m + cond t byZero (computed (quotZ a b)) .clamped ≡ m + clampsBy (layOutside (cond t none (exactly (quotZ a b))))
+    go : (t : Bool) → m + cond t byZero (computed (quotZ a b)) .clamps ≡ m + clampsBy (layOutside (cond t none (exactly (quotZ a b))))
     go true = refl
     go false = refl
 says Read c p a b e m end = sym (add-zero m)
@@ -190,6 +190,10 @@ calls =
     one-call Receives = le-refl 1
     one-call Sends = le-refl 1
 
+pub one-result : (b : Bool) → clampsBy b ≤ 1
+one-result true = le-refl 1
+one-result false = zero-le
+
 -- the clamped results
 unfoldable pub clamped : Counter
 unfolding step does
@@ -203,10 +207,6 @@ clamped =
           says (c .op) c (x .place) (variable x (c .v)) (variable x (c .w)) (entry p (c .k)) (x .clamped) n;
       most = λ c x. one-result (layOutside (exactOf (c .op) (variable x (c .v)) (variable x (c .w))));
     }
-  where
-    one-result : (b : Bool) → clampsBy b ≤ 1
-    one-result true = le-refl 1
-    one-result false = zero-le
 
 -- of a level's execution
 abbrev pub countAt : Counter → Level → State → ℕ

@@ -50,7 +50,7 @@ telling =
 
 pub bounds-reached : BoundsReached
 unfolding opened
-bounds-reached = record { accepts1 = refl; accepts4 = refl; positions = refl; room = refl; taken = refl }
+bounds-reached = record { accepts1 = refl; accepts4 = refl; positions = refl; room = refl; taken = refl; clamped = refl; some = refl }
 
 pub stop-has-no-target : StopHasNoTarget
 unfolding opened rowFor kept has

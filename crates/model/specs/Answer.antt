@@ -87,8 +87,8 @@ answered ns m = record { returned = getD ns 0 0; output = m; answer = allLe32 ns
 abbrev pub bytesFor : ℕ → ℕ
 bytesFor count = 4 * count
 
--- Refusal 10: "the answer memory is not exactly 24 bytes; returned before anything else, nothing written", where Note 3 has 28 for 24. An entry whose answer has so many numbers comes
--- to x, unless the answer memory a has another length than they take; m is the output memory.
+-- Refusal 10: "the answer memory is not exactly 24 bytes; returned before anything else, nothing written", where Note 3 has 28 for 24. An entry whose answer has
+-- so many numbers comes to x, unless the answer memory a has another length than they take; m is the output memory.
 unfoldable pub entered : ℕ → List ℕ → List ℕ → After → After
 entered count m a x = cond (eqb (length a) (bytesFor count)) x (record { returned = 10; output = m; answer = a })
 

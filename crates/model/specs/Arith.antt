@@ -31,7 +31,7 @@ clampsBy false = 0
 
 -- what is stored of an exact result, and what is said of it
 unfoldable pub computed : ℤ → Computed
-computed z = record { value = clamp z; clamped = clampsBy (outside z) }
+computed z = record { value = clamp z; clamps = clampsBy (outside z) }
 
 -- "v becomes v + w, v - w, v times w, clamped to the nearest end of the range"
 unfoldable pub sum : ℤ → ℤ → Computed
@@ -45,7 +45,7 @@ product a b = computed (a *ℤ b)
 
 -- "a zero divisor gives 0"; Note 3: "a zero divisor doesn't count"
 abbrev pub byZero : Computed
-byZero = record { value = pos 0; clamped = 0 }
+byZero = record { value = pos 0; clamps = 0 }
 
 -- "quotient cut toward zero and clamped"
 unfoldable pub quotient : ℤ → ℤ → Computed

@@ -50,8 +50,8 @@ AlwaysSays = (c : Command) (p : ℕ) (a b : ℤ) (e : Entry) (m end : ℕ) → S
 
 -- An exact result lay outside the range exactly where it is not the value that is stored; that is one clamped result
 pub record Clamps (z : ℤ) : Type 0 where
-  pub beyond : outside z ≡ true → (computed z .value ≢ z) × (computed z .clamped ≡ 1)
-  pub within : outside z ≡ false → (computed z .value ≡ z) × (computed z .clamped ≡ 0)
+  pub beyond : outside z ≡ true → (computed z .value ≢ z) × (computed z .clamps ≡ 1)
+  pub within : outside z ≡ false → (computed z .value ≡ z) × (computed z .clamps ≡ 0)
 
 abbrev pub AlwaysClamps : Type 0
 AlwaysClamps = (z : ℤ) → Clamps z
@@ -63,9 +63,10 @@ pub record AtTheEnds : Type 0 where
   pub greatest : outside (pos 2147483647) ≡ false
   pub above : outside (pos 2147483648) ≡ true
 
--- Of `div`, on two numbers of the range, only that of the least number by -1 did
-abbrev pub OneQuotient : Type 0
-OneQuotient = (a b : ℤ) → outside a ≡ false → outside b ≡ false → quotient a b .clamped ≡ 1 → (a ≡ least) × (b ≡ negsuc 0)
+-- Of the quotients of a number of the range, that of the least number by -1 did, and no other
+pub record OneQuotient : Type 0 where
+  pub does : quotient least (negsuc 0) .clamps ≡ 1
+  pub only : (a b : ℤ) → outside a ≡ false → quotient a b .clamps ≡ 1 → (a ≡ least) × (b ≡ negsuc 0)
 
 -- ---- "the clamped results of the low execution alone"
 

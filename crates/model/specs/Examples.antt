@@ -37,7 +37,8 @@ sheet8 = bytes "sheet=1\nkeys=1\nsecret=0:0\ndo=receive\ndo=read 0 0\ndo=ifzero 
 abbrev pub lentByRunsheet : ℕ
 lentByRunsheet = 32768
 
--- P1 to P11, in their order; P7 and P9 are several. Document 02, Note 3: "the answers in P1 to P8 and P11 gain a 0"
+-- P1 to P11, in their order; P7 and P9 are several. Document 02, Note 3: "the answers in P1 to P8 and P11 gain a 0". (Of P9 and P10 the paper gives the values; how
+-- many clamped results they have is ours.)
 unfoldable pub list : List Example
 list =
     prints (sheetA "0:1500,1:1480" "LHLHLHLHLH") lentByRunsheet "sent=0006 +0000001500 +0000001480\nend=0 0 9 5 34 1 0\n"

@@ -34,9 +34,10 @@ begun = record { place = 0; vars = replicate variables (pos 0); calls = 0; clamp
 abbrev pub made : ℕ → ℤ → Entry → ℕ → Effect
 made p z e m = record { place = p; value = z; clamped = m; entry = e }
 
--- what one of the four does, where there were m clamped results before it
+-- Note 3: "Each of `add`, `sub`, `mul` and `div` shall say whether its exact result lay outside the range": what one of these does, where there were m clamped
+-- results before it
 abbrev pub computes : ℕ → Computed → Entry → ℕ → Effect
-computes p r e m = record { place = p; value = r .value; clamped = m + r .clamped; entry = e }
+computes p r e m = record { place = p; value = r .value; clamped = m + r .clamps; entry = e }
 
 -- The meanings of the words, in the table's order: of a command at the place p, in a program that ends at the place end; a and b are what the variables
 -- v and w hold, e is the entry at k, m the execution's clamped results so far. A call only moves the execution on here: what else it does is said with the

@@ -1,13 +1,13 @@
 -- The claims are not empty: two sheets of document 01 to which demand 3 applies and that it does not make equal, and runs that reach the bounds of
 -- their counts.
-use Prim.Native.Nat.{ℕ, _≤_}
+use Prim.Native.Nat.{ℕ, suc, _≤_}
 use mathlib.Core.Path.{_≡_}
 use mathlib.Core.Logic.{_≢_}
 use mathlib.Core.List.{List, [], _∷_}
 use lib.{IntN.pos, IntN.negsuc, ListN.length, ListN.getD, ListN.replicate}
 use Rattle.model.specs.{Command.blank, Job.Job, Sheet.accepted, Sheet.readSheet, Run.runJob, Answer.numbersOf, Answer.bytesWritten, Answer.leftBy, Answer.runSheet}
 use Rattle.model.specs.{Secrecy.Alike, Secrecy.Hidden, Secrecy.Indistinguishable, Accepted.Bare, Examples.sheetA, Examples.lentByRunsheet}
-use Rattle.model.specs.Data.{Entry, Absent, Number, Key, Open, Secret, Read, Put, Receive, Send, Stop, Level, Low, High}
+use Rattle.model.specs.Data.{Entry, Absent, Number, Key, Open, Secret, Set, Add, Read, Put, Receive, Send, Stop, Level, Low, High}
 
 -- ---- What sheet A says, with this entry at the secret key of its message, and these letters
 
@@ -79,13 +79,26 @@ job1 = jobA (Number (pos 1480)) ten
 abbrev pub job4 : Job
 job4 = jobA (Number (pos 1480)) (Low ∷ High ∷ Low ∷ High ∷ [])
 
--- Each bound of `Counted` is reached: P4 uses every letter, P7 with 34 bytes lent fills them, P1 takes every message.
+-- two low steps, of which the second doubles the greatest number
+abbrev pub jobDoubled : Job
+jobDoubled =
+    record {
+      keys = Open ∷ [];
+      commands = record { op = Set; v = 0; w = 0; k = 0; t = 0; n = pos 2147483647 } ∷ record { op = Add; v = 0; w = 0; k = 0; t = 0; n = pos 0 } ∷ [];
+      messages = [];
+      turns = Low ∷ Low ∷ [];
+    }
+
+-- The bounds of `Counted` are reached: P4 uses every letter, P7 with 34 bytes lent fills them, P1 takes every message. The clamped results come as near to the low
+-- steps as they can: the first command of a run has none, since all variables are 0 then, and here the other has one.
 pub record BoundsReached : Type 0 where
   pub accepts1 : readSheet (sheetA "0:1500,1:1480" "LHLHLHLHLH") ≡ accepted job1
   pub accepts4 : readSheet (sheetA "0:1500,1:1480" "LHLH") ≡ accepted job4
   pub positions : runJob job4 lentByRunsheet .counts .positions ≡ length (job4 .turns)
   pub room : runJob job1 34 .counts .bytes ≡ 34
   pub taken : runJob job1 lentByRunsheet .counts .taken ≡ length (job1 .messages)
+  pub clamped : runJob jobDoubled lentByRunsheet .counts .steps ≡ suc (runJob jobDoubled lentByRunsheet .counts .clamped)
+  pub some : runJob jobDoubled lentByRunsheet .counts .clamped ≡ 1
 
 -- ---- Commands
 

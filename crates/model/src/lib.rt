@@ -159,7 +159,7 @@ fn calls_by(call: Call) -> usize
 // What one of the four operations gives: the value that is stored, and 1 if its exact result lay outside the range, else 0.
 pub struct Computed {
     pub value: i32,
-    pub clamped: usize,
+    pub clamps: usize,
 }
 
 // An execution's level, which is also a letter of turns: L or H.

@@ -4,7 +4,7 @@ use mathlib.Core.Path.{_≡_, refl, sym, ap, _∙_}
 use mathlib.Core.List.{List, []}
 use native.Mathlib.Omega.{arith}
 use lib.ListN.{length, getD, drop}
-use Rattle.model.specs.{Answer.After, Answer.Left, Answer.numbersOf, Answer.allLe32, Answer.answeredBy, Answer.leftBy, Answer.numberCount, Answer.runSheet, Answer.entered, Answer.runEntry, Answer.le32}
+use Rattle.model.specs.{Answer.After, Answer.Left, Answer.numbersOf, Answer.bytesFor, Answer.allLe32, Answer.answeredBy, Answer.leftBy, Answer.numberCount, Answer.runSheet, Answer.entered, Answer.runEntry, Answer.le32}
 use Rattle.model.specs.{Job.Job, Placed.front, Line.bytesOf, Line.memoryAfter, Sheet.Reading, Sheet.accepted, Sheet.readSheet, Run.runJob, Secrecy.Indistinguishable, Witness.sheet2}
 use Rattle.model.specs.{Witness.sheet3, Witness.job2, Witness.job3, Witness.lent}
 use Rattle.model.specs.Sheet as Sheet
@@ -86,9 +86,9 @@ seventh s o a r o′ a′ c =
     let d = second c in
     record {
       accepts = λ j e.
-          ap (drop 24) (d .numbers ∙ ap (λ (x : Left). allLe32 (numbersOf (x .answer))) (accepted-left s o j e))
+          ap (drop (bytesFor 6)) (d .numbers ∙ ap (λ (x : Left). allLe32 (numbersOf (x .answer))) (accepted-left s o j e))
           ∙ ap le32 (counts-of j (length o) .clamped);
-      refuses = λ n l e. ap (drop 24) (d .numbers ∙ ap (λ (x : Left). allLe32 (numbersOf (x .answer))) (refused-left s o n l e));
+      refuses = λ n l e. ap (drop (bytesFor 6)) (d .numbers ∙ ap (λ (x : Left). allLe32 (numbersOf (x .answer))) (refused-left s o n l e));
     }
 
 pub telling : Telling

@@ -4,7 +4,7 @@ use mathlib.Core.Path.{_≡_}
 use mathlib.Core.Logic.{_≢_}
 use mathlib.Core.List.{List, [], _++_}
 use lib.ListN.{length, getD, drop, replicate}
-use Rattle.model.specs.{Answer.After, Answer.numbersOf, Answer.le32, Answer.allLe32, Answer.answerBytes, Answer.runSheet, Answer.runEntry, Job.Job, Line.bytesOf, Sheet.accepted}
+use Rattle.model.specs.{Answer.After, Answer.numbersOf, Answer.le32, Answer.allLe32, Answer.bytesFor, Answer.answerBytes, Answer.runSheet, Answer.runEntry, Job.Job, Line.bytesOf, Sheet.accepted}
 use Rattle.model.specs.{Sheet.readSheet, Run.runJob, Secrecy.Alike, Secrecy.Hidden, Witness.sheet2, Witness.sheet3, Witness.otherSheet, Witness.job2, Witness.job3}
 use Rattle.model.specs.{Run.lowTurnsOf, Clamped.clampedIn, Witness.lent}
 use Rattle.model.specs.Sheet as Sheet
@@ -38,11 +38,11 @@ pub record Demand3 (s t : List ℕ) (a b : Job) (output : List ℕ) (returned₁
   pub size : length output₁ ≡ length output₂
   pub byte : (p : ℕ) → ¬ Hidden High (a .keys) (runJob a (length output) .counts .bytes) p → getD output₁ p 0 ≡ getD output₂ p 0
 
--- Document 02, Note 3, "a seventh number": the last four bytes of the answer memory say how many of the low execution's turns had an exact result outside the
--- range; on a refusal 0
+-- Document 02, Note 3, "a seventh number": what stands behind the bytes of the six in the answer memory says how many of the low execution's turns had an exact
+-- result outside the range; on a refusal 0
 pub record Seventh (sheet output answer : List ℕ) (returned : ℕ) (output′ answer′ : List ℕ) : Type 0 where
-  pub accepts : (j : Job) → readSheet sheet ≡ accepted j → drop 24 answer′ ≡ le32 (clampedIn (j .commands) (lowTurnsOf j (runJob j (length output) .counts .positions)))
-  pub refuses : (n l : ℕ) → readSheet sheet ≡ Sheet.refused n l → drop 24 answer′ ≡ le32 0
+  pub accepts : (j : Job) → readSheet sheet ≡ accepted j → drop (bytesFor 6) answer′ ≡ le32 (clampedIn (j .commands) (lowTurnsOf j (runJob j (length output) .counts .positions)))
+  pub refuses : (n l : ℕ) → readSheet sheet ≡ Sheet.refused n l → drop (bytesFor 6) answer′ ≡ le32 0
 
 abbrev pub Demand1Holds : Type 0
 Demand1Holds = (s o a : List ℕ) (r : ℕ) (o′ a′ : List ℕ) → Called s o a r o′ a′ → Demand1 s o a r o′ a′

@@ -7,7 +7,7 @@ use native.Mathlib.{Nat.mul-le-mul, Nat.div-le-self, Nat.sub-le, Nat.le-refl, Na
 use lib.{IntN.ℤ, IntN.pos, IntN.negsuc, IntN.negℤ, IntN.subℕ, IntN._+ℤ_, IntN._-ℤ_, IntN._*ℤ_, Dec.T, Dec.ltb, Dec.lit<, Signed.mag, Signed.ltZ, Signed.quotZ}
 use borrow.Author.Tests.{ltb-false}
 use mir.{Syntax.w32, Syntax.w64, Val.SFits, Val.toZ, Val.ofZ, Facts.sfits-widen, Facts.toZ-ofZ}
-use Rattle.model.specs.{Limits.greatestNumber, Arith.clamp, Arith.outside, Arith.computed, Arith.quotient, Arith.byZero, Arith.isZero, Arith.least, Arith.greatest}
+use Rattle.model.specs.{Limits.greatestNumber, Arith.clamp, Arith.outside, Arith.clampsBy, Arith.computed, Arith.quotient, Arith.byZero, Arith.isZero, Arith.least, Arith.greatest}
 use Rattle.model.specs.declared.Computed.{Computed}
 use Rattle.model.proofs.Clamped.{mag-negpos}
 
@@ -99,14 +99,10 @@ pub clamp-in : (z : ℤ) → ltZ z least ≡ false → ltZ greatest z ≡ false 
 unfolding clamp
 clamp-in z h k = simp (h, k)
 
--- the cases of `computed`
-pub computed-within : (z : ℤ) → outside z ≡ false → record { value = clamp z; clamped = 0 } ≡ computed z
+-- what is computed, once it is known whether the exact result lies outside
+pub computed-is : (z : ℤ) (t : Bool) → outside z ≡ t → record { value = clamp z; clamps = clampsBy t } ≡ computed z
 unfolding computed
-computed-within z h = simp h
-
-pub computed-beyond : (z : ℤ) → outside z ≡ true → record { value = clamp z; clamped = 1 } ≡ computed z
-unfolding computed
-computed-beyond z h = simp h
+computed-is z t h = simp h
 
 pub in-fits : (z : ℤ) → ltZ z least ≡ false → ltZ greatest z ≡ false → SFits w32 z
 in-fits (pos n) h k = record { sfits = omega (arith, ltb-false greatestNumber n k) }

@@ -29,9 +29,9 @@ fn computed(x: i64) -> Computed
 {
     let value = clamp(x);
     if value as i64 == x {
-        return Computed { value, clamped: 0 };
+        return Computed { value, clamps: 0 };
     }
-    Computed { value, clamped: 1 }
+    Computed { value, clamps: 1 }
 }
 
 pub fn add(a: i32, b: i32) -> Computed
@@ -59,7 +59,7 @@ pub fn div(a: i32, b: i32) -> Computed
     if b == 0 {
         return Computed {
             value: 0,
-            clamped: 0,
+            clamps: 0,
         };
     }
     computed(a as i64 / b as i64)

@@ -1,11 +1,10 @@
 -- What an effect changes of a record.
-use Prim.Native.Nat.{ℕ, zero, suc, _+_, _≤_}
+use Prim.Native.Nat.{ℕ, zero, suc, _+_}
 use mathlib.Core.Path.{_≡_, refl, ap, ap₂, _∙_}
 use mathlib.Core.Bool.{cond}
 use mathlib.Core.List.{List, [], _∷_}
-use lib.{IntN.ℤ, IntN.pos, IntN.negsuc, IntN._+ℤ_, IntN._-ℤ_, IntN._*ℤ_, ListN.getD, ListN.set}
-use Rattle.model.specs.{Arith.sum, Arith.difference, Arith.product, Arith.isZero, Step.variable, Step.callsBy, Step.afterOf}
-use Rattle.model.proofs.Clamped.{computed-most}
+use lib.{IntN.ℤ, IntN.pos, IntN.negsuc, ListN.getD, ListN.set}
+use Rattle.model.specs.{Arith.isZero, Step.variable, Step.callsBy, Step.afterOf}
 use Rattle.model.specs.declared.{Call.Call, Effect.Effect, Execution.Execution}
 
 set-back : (xs : List ℤ) (v : ℕ) (z d : ℤ) → set xs v (getD (set xs v z) v d) ≡ set xs v z
@@ -22,19 +21,6 @@ pub changed-is : (x : Execution) (v : ℕ) (k : Call) (f : Effect) (next : Execu
 changed-is x v k f next z en ez =
     ap₂ (changedBy x v) (ez ∙ ap (λ (y : Execution). variable y v) en) en
     ∙ ap (λ (vs : List ℤ). record { place = f .place; vars = vs; calls = x .calls + callsBy k; clamped = f .clamped }) (set-back (x .vars) v (f .value) (pos 0))
-
--- what an operation adds to the clamped results
-pub sum-most : (a b : ℤ) → sum a b .clamped ≤ 1
-unfolding sum
-sum-most a b = computed-most (a +ℤ b)
-
-pub difference-most : (a b : ℤ) → difference a b .clamped ≤ 1
-unfolding difference
-difference-most a b = computed-most (a -ℤ b)
-
-pub product-most : (a b : ℤ) → product a b .clamped ≤ 1
-unfolding product
-product-most a b = computed-most (a *ℤ b)
 
 -- a test for zero on the bits is one on the number
 pub nonzero : (z : ℤ) (t p : ℕ) → (z ≡ pos 0 → ⊥) → p ≡ cond (isZero z) t p

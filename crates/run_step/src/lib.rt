@@ -71,13 +71,13 @@ fn made(place: usize, value: i32, entry: Entry, clamped: usize) -> Effect
 }
 
 fn computes(place: usize, result: Computed, entry: Entry, clamped: usize) -> Effect
-    requires { ⌜ (clamped < 4294967296) × (result .clamped ≤ 1) ⌝ }
+    requires { ⌜ (clamped < 4294967296) × (result .clamps ≤ 1) ⌝ }
     ensures { λ r. ⌜ r ≡ Effect·computes place result entry clamped ⌝ }
 {
     Effect {
         place,
         value: result.value,
-        clamped: clamped + result.clamped,
+        clamped: clamped + result.clamps,
         entry,
     }
 }

@@ -66,15 +66,14 @@ static PAIRS_CLAMP_DIFFERENTLY: Telling = Telling {
     one_of: 60,
 };
 
-/// About one in 54 has; where the low execution clamps too, a monitor that counts what either of them
-/// clamps could be right by chance.
+/// About one in 54 has; where both clamp equally often, a monitor that counts the high execution's
+/// results in place of the low one's is right by chance.
 static HIGH_CLAMPS_ALONE: Telling = Telling {
     words: "accepted sheets have a high execution that clamps and a low one that does not",
     one_of: 200,
 };
 
-/// About one in 18 has; where the high execution clamps too, a monitor that counts its results could be
-/// right by chance.
+/// About one in 18 has; the same, for a monitor that counts a result only where both clamp.
 static LOW_CLAMPS_ALONE: Telling = Telling {
     words: "accepted sheets have a low execution that clamps and a high one that does not",
     one_of: 60,

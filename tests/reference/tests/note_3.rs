@@ -77,8 +77,11 @@ fn zero_divisors_and_results_at_an_end_are_looked_at() {
 /// "the answers in P1 to P8 and P11 gain a 0".
 #[test]
 fn the_examples_of_document_01_gain_a_0() {
-    for (_, sheet, text) in EXAMPLES {
-        assert!(text.ends_with(" 0\n"), "{sheet}");
+    for (lent, sheet, text) in EXAMPLES {
+        assert_eq!(printed(sheet.as_bytes(), *lent), text.as_bytes(), "{sheet}");
+        let end = text.lines().last().expect("an end line");
+        let numbers: Vec<&str> = end.strip_prefix("end=").expect("end=").split(' ').collect();
+        assert_eq!((numbers.len(), numbers[6]), (7, "0"), "{sheet}");
     }
     let a = "sent=0006 +0000001500 +0000001480\nend=0 0 9 5 34 1 0\n";
     assert_eq!(printed(EXAMPLES[0].1.as_bytes(), LENT), a.as_bytes());

@@ -4,9 +4,9 @@ use mathlib.Core.Path.{_≡_, sym, subst, _∙_}
 use Prim.Native.Nat.{_<_, _≤_}
 use mir.{Syntax.w32, Val.toZ, Val.ofZ, ValLaws.toZ-ofZ}
 use Rattle.model.specs.declared.Computed.{Computed}
-use Rattle.model.proofs.Clamped.{quotient-most}
+use Rattle.model.specs.Arith.{sum, difference, product}
+use Rattle.model.proofs.Clamped.{computed-most, quotient-most}
 use Rattle.run_arith.proofs.Laws.{returned}
-use Rattle.run_step.proofs.Laws.{sum-most, difference-most, product-most}
 use Rattle.run_step.proofs.effect_at.Statement.{statement}
 use Rattle.run_step.proofs.effect_at.Tie as tie
 
@@ -18,8 +18,8 @@ b-is : (s : tie.Start) → toZ w32 (ofZ w32 (s .args .b)) ≡ s .args .b
 b-is s = toZ-ofZ w32 (s .args .b) (s .fits .b)
 
 -- an operation adds at most one clamped result
-most : (s : tie.Start) {r z : Computed} → r ≡ z → z .clamped ≤ 1 → (s .args .m < 4294967296) × (r .clamped ≤ 1)
-most s e h = (s .pre .1, subst (λ (y : Computed). y .clamped ≤ 1) (sym e) h)
+most : (s : tie.Start) {r z : Computed} → r ≡ z → z .clamps ≤ 1 → (s .args .m < 4294967296) × (r .clamps ≤ 1)
+most s e h = (s .pre .1, subst (λ (y : Computed). y .clamps ≤ 1) (sym e) h)
 
 returns : tie.Need-returns
 returns c = c .made .ensures ∙ simp (c .before .before .enum-told .given .1, toZ-ofZ w32 (c .before .before .before .before .args .c .n) (search needs))
@@ -79,13 +79,14 @@ returns-15 : tie.Need-returns-15
 returns-15 c = c .made11 .ensures ∙ simp (c .before .enum-told15 .given .1, a-is (c .before .before .before))
 
 pub effect-at-spec : {M : Type 1} → statement M
+unfolding sum difference product
 effect-at-spec =
     tie.close
     (tie.spec
     (λ c. search needs) (λ c. search needs) (λ c κs. search needs)
-    (λ c. search needs) (λ c κs. search needs) (λ c κs. most (c .before .before .before) (c .add .ensures) (sum-most _ _))
-    (λ c. search needs) (λ c κs. search needs) (λ c κs. most (c .before .before .before) (c .sub .ensures) (difference-most _ _))
-    (λ c. search needs) (λ c κs. search needs) (λ c κs. most (c .before .before .before) (c .mul .ensures) (product-most _ _))
+    (λ c. search needs) (λ c κs. search needs) (λ c κs. most (c .before .before .before) (c .add .ensures) (computed-most _))
+    (λ c. search needs) (λ c κs. search needs) (λ c κs. most (c .before .before .before) (c .sub .ensures) (computed-most _))
+    (λ c. search needs) (λ c κs. search needs) (λ c κs. most (c .before .before .before) (c .mul .ensures) (computed-most _))
     (λ c. search needs) (λ c κs. search needs) (λ c κs. most (c .before .before .before) (c .div .ensures) (quotient-most _ _))
     (λ c. search needs) (λ c κs. search needs) (λ c κs. search needs) (λ c. search needs) (λ c κs. search needs) (λ c κs. search needs) (λ c. search needs) (λ c κs. search needs) (λ c. search needs) (λ c κs. search needs)
     (λ c. search needs) (λ c κs. search needs) (λ c κs. search needs) (λ c κs. search needs) (λ c. search needs) (λ c κs. search needs) (λ c κs. search needs) (λ c κs. search needs)
