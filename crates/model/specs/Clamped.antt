@@ -40,7 +40,7 @@ abbrev pub layOutside : Exact → Bool
 layOutside (exactly z) = outside z
 layOutside none = false
 
--- What a command says is so, whatever its word: of m clamped results it makes one more, or none; and the value of its exact result is the one that is stored
+-- What a command says is so, whatever its word: of m clamped results it makes one more, or none; and of an exact result it stores what is computed of that
 pub record Says (c : Command) (p : ℕ) (a b : ℤ) (e : Entry) (m end : ℕ) : Type 0 where
   pub says : effectOf c p a b e m end .clamped ≡ m + clampsBy (layOutside (exactOf (c .op) a b))
   pub stores : (z : ℤ) → exactOf (c .op) a b ≡ exactly z → effectOf c p a b e m end .value ≡ computed z .value
@@ -109,8 +109,8 @@ pub record HighUntold : Type 0 where
 unfoldable pub sums : String → List ℕ
 sums commands = bytes "sheet=1\nkeys=1\nsecret=0:0\n" ++ (bytes commands ++ bytes "msg=0:2147483647\nturns=LLLLLLLL\n")
 
--- Two sums beyond the greatest number, and a difference that is not; the least number by -1, a zero divisor, and the square of an end; a sum that just
--- reaches the greatest number; the high execution's clamped result; a refusal. (Sheet A and the empty sheet are P1 and P11.)
+-- Two sums beyond the greatest number, and a difference that is not; the least number by -1, a zero divisor, and the square of the 0 that it gives; a sum that
+-- just reaches the greatest number; the high execution's clamped result; a refusal. (Sheet A and the empty sheet are P1 and P11.)
 unfoldable pub examples : List Example
 examples =
     prints (sums "do=set 0 2147483647\ndo=set 1 1\ndo=add 0 1\ndo=add 0 1\ndo=sub 0 1\n") lentByRunsheet "end=0 0 5 5 0 0 2\n"
