@@ -65,7 +65,7 @@ struct pavebox_answer {
     uint32_t low_steps; /* letters L among them */
     uint32_t written;   /* bytes of sent lines at the start of the output memory */
     uint32_t taken;     /* message lines taken */
-    uint32_t clamped;   /* results of add, sub, mul and div in the low execution that were clamped */
+    uint32_t clamped;   /* results of the low execution's add, sub, mul and div that were clamped */
 };
 
 /* One number from four bytes, low byte first. */

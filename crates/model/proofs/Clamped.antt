@@ -15,7 +15,7 @@ use Rattle.model.proofs.{Turn.says, Turn.one-result, Examples.opened, S
 
 -- ---- What a command says and stores
 
--- the number of an exact result, and that there is one
+-- the number of an exact result, and that there is none
 abbrev numberIn : Exact → ℤ
 numberIn (exactly z) = z
 numberIn none = pos 0
@@ -74,19 +74,6 @@ always-clamps z = go (ltZ z least) (ltZ greatest z) refl refl
         }
     go false false eb ea = record { beyond = λ o. absurd (true≢false (sym (rw (eb, ea) at o))); within = λ i. (rw (eb, ea), rw (eb, ea)) }
 
--- of an operation there is at most one clamped result
-pub computed-most : (z : ℤ) → computed z .clamps ≤ 1
-unfolding computed
-computed-most z = one-result (outside z)
-
-pub quotient-most : (a b : ℤ) → quotient a b .clamps ≤ 1
-unfolding quotient
-quotient-most a b = go (isZero b)
-  where
-    go : (t : Bool) → cond t byZero (computed (quotZ a b)) .clamps ≤ 1
-    go true = zero-le
-    go false = computed-most (quotZ a b)
-
 -- so the value that is stored tells
 pub tells-within : (z : ℤ) → clamp z ≡ z → outside z ≡ false
 unfolding computed
@@ -103,6 +90,19 @@ tells-beyond z differs = go (outside z) refl
     go : (t : Bool) → outside z ≡ t → outside z ≡ true
     go true e = e
     go false e = absurd (differs (always-clamps z .within e .0))
+
+-- of an operation there is at most one clamped result
+pub computed-most : (z : ℤ) → computed z .clamps ≤ 1
+unfolding computed
+computed-most z = one-result (outside z)
+
+pub quotient-most : (a b : ℤ) → quotient a b .clamps ≤ 1
+unfolding quotient
+quotient-most a b = go (isZero b)
+  where
+    go : (t : Bool) → cond t byZero (computed (quotZ a b)) .clamps ≤ 1
+    go true = zero-le
+    go false = computed-most (quotZ a b)
 
 pub at-the-ends : AtTheEnds
 unfolding outside

@@ -1,4 +1,4 @@
--- Bounds on the integers that the machine's signed operations ask, what `computed` is in each of its cases, and one law for
+-- Bounds on the integers that the machine's signed operations ask, what `clamp` and `computed` are in each of their cases, and one law for
 -- every operation that is done at `i64` and then computed. Assumes nothing.
 use mathlib.Core.Path.{_≡_, refl, ap, _∙_}
 use mathlib.Core.Bool.{Bool, true, false, not, cond, true≢false}

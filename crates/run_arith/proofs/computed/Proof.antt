@@ -2,13 +2,18 @@
 use mathlib.Core.Path.{_≡_, sym, ap, _∙_}
 use mathlib.Core.Bool.{true, false}
 use borrow.Author.Needs.{needs}
+use Prim.Native.Nat.{ℕ}
 use lib.IntN.{ℤ}
 use mir.{Syntax.w32, Syntax.w64, Val.SFits, Val.toZ, Val.ofZ, Facts.toZ-ofZ}
-use Rattle.model.specs.Arith.{clamp}
+use Rattle.model.specs.{Arith.clamp, declared.Computed.Computed}
 use Rattle.model.proofs.Clamped.{tells-within, tells-beyond}
 use Rattle.run_arith.proofs.Laws.{widens, widened, computed-is}
 use Rattle.run_arith.proofs.computed.Statement.{statement}
 use Rattle.run_arith.proofs.computed.Tie as tie
+
+-- a value, with what is said of it
+abbrev told : ℕ → ℤ → Computed
+told n z = record { value = z; clamps = n }
 
 module _ (c : tie.After-clamp) where
   abbrev x : ℤ
@@ -30,12 +35,12 @@ returns : tie.Need-returns
 returns c =
     let b = c .before in
     let same : clamp (x b) ≡ x b = sym (value-is b) ∙ sym (widened (fits b)) ∙ ap (toZ w64) (c .if1 .taken) ∙ back b in
-    rw (stored b) (computed-is (x b) false (tells-within (x b) same))
+    ap (told 0) (stored b) ∙ computed-is (x b) false (tells-within (x b) same)
 
 returns-2 : tie.Need-returns-2
 returns-2 c =
     let b = c .before in
-    rw (stored b) (computed-is (x b) true (tells-beyond (x b) (λ same. c .if1 .left (ap (ofZ w64) (stored b ∙ same)))))
+    ap (told 1) (stored b) ∙ computed-is (x b) true (tells-beyond (x b) (λ same. c .if1 .left (ap (ofZ w64) (stored b ∙ same))))
 
 pub computed-spec : {M : Type 1} → statement M
 computed-spec = tie.close (tie.spec (λ c κs. search needs) (λ c. widens (fits c)) returns returns-2)
