@@ -13,6 +13,7 @@ use Rattle.model.specs.Form as Form
 use Rattle.model.specs.Sheet as Sheet
 use Rattle.model.specs.Arith as Arith
 use Rattle.model.specs.Step as Step
+use Rattle.model.specs.Process as Process
 use Rattle.model.specs.State as State
 use Rattle.model.specs.Message as Message
 use Rattle.model.specs.Run as Run
@@ -39,10 +40,11 @@ unfolding Text.bytes Text.classOf Text.same Text.find Text.divide Text.split Tex
     Sheet.targets Sheet.readBody Sheet.readLines Sheet.forbiddenLine Sheet.closed Sheet.readSheet
     Arith.clamp Arith.outside Arith.computed Arith.sum Arith.difference Arith.product Arith.quotient
     Step.does Step.callOf
-    State.entry State.refill State.step State.command State.stopped State.at State.put State.each State.takes State.sends State.noted
+    Process.fresh Process.entry Process.refill Process.step Process.command Process.stopped
+    State.at State.put State.each State.takes State.sends State.noted
     Message.shown Message.fill Message.received Message.receive Message.source Message.columns Message.lineNow Message.send
     Verdict.waits Verdict.short Verdict.idles Verdict.noRoom Verdict.verdict
-    Run.share Run.lead Run.waitsAt Run.followed Run.turnBy Run.ended Run.runBy Run.fresh Run.initial Run.afterTurns Run.runJobBy
+    Run.share Run.lead Run.waitsAt Run.followed Run.turnBy Run.ended Run.runBy Run.initial Run.afterTurns Run.runJobBy
     Decimal.digits Decimal.widthTo Decimal.width Decimal.natural Placed.front
     Line.lineLength Line.sign Line.cell Line.cells Line.heading Line.lineBytes Line.bytesOf Line.memoryAfter
     Answer.numbersOf Answer.runSheet Answer.spaced Answer.report Answer.printed

@@ -3,7 +3,8 @@ use mathlib.Core.Path.{_≡_, refl, subst}
 use mathlib.Core.Logic.{_≢_}
 use Prim.Native.Nat.{ℕ}
 use native.Mathlib.Omega.{arith}
-use Rattle.model.specs.State.{Process, leads, follows, role, leader, Processes, at, put, each}
+use Rattle.model.specs.Process.{Process}
+use Rattle.model.specs.State.{leads, follows, role, leader, Processes, at, put, each}
 use Rattle.model.specs.Data.{Level, Low, High}
 
 pub leads-not-follows : leads ≡ follows → ⊥

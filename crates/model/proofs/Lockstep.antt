@@ -5,8 +5,8 @@ use mathlib.Core.Logic.{_≢_}
 use mathlib.Core.List.{List, [], _∷_, _++_}
 use lib.{ListN.length, ListN.getD, ListN.drop, Seq.getD-drop}
 use native.Mathlib.Numerals.{one-add}
-use Rattle.model.specs.{Step.callOf, State.Process, State.Sent, State.Incoming, State.Outgoing, State.State, State.fieldsOf, State.refill, State.step}
-use Rattle.model.specs.{State.command, State.Role, State.leads, State.follows, State.role, State.leader, State.takenOf, State.takes}
+use Rattle.model.specs.{Step.callOf, Process.Process, Line.Sent, State.Incoming, State.Outgoing, State.State, State.fieldsOf, Process.refill, Process.step}
+use Rattle.model.specs.{Process.command, State.Role, State.leads, State.follows, State.role, State.leader, State.takenOf, State.takes}
 use Rattle.model.specs.{State.sends, State.ticked, State.process, State.withProcess, State.noted, Run.Outcome, Run.share, Run.counted, Run.lead, Run.followed, Run.Rule, Run.following}
 use Rattle.model.specs.{Run.moved}
 use Rattle.model.specs.{Run.turnBy, Run.ended, Run.settle, Run.runBy, Run.initial, Message.shown, Message.source, Message.fill, Message.received, Message.receive}

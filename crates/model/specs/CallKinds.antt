@@ -7,7 +7,7 @@ use mathlib.Core.Logic.{_≢_}
 use mathlib.Core.Bool.{Bool, false}
 use mathlib.Core.List.{List, [], _∷_, _++_}
 use lib.{Dec.leb, IntN.pos, ListN.length}
-use Rattle.model.specs.{Text.bytes, Command.blank, Job.Job, Sheet.accepted, Sheet.readSheet, Step.callOf, Step.kindsBy, State.Process, State.step, State.command, State.stopped}
+use Rattle.model.specs.{Text.bytes, Command.blank, Job.Job, Sheet.accepted, Sheet.readSheet, Step.callOf, Step.kindsBy, Process.Process, Process.step, Process.command, Process.stopped}
 use Rattle.model.specs.{State.follows, State.role, State.leader, State.State, State.process, Line.bytesOf, Verdict.kindAt, Run.unlessIdle, Run.followed, Run.Rule}
 use Rattle.model.specs.{Run.afterTurns, Run.stateAfter, Run.lowTurnsOf, Run.ended, Run.runJobBy, Run.runJob, Answer.leftBy, Answer.runSheet, Secrecy.Indistinguishable}
 use Rattle.model.specs.{Examples.Example, Examples.prints, Examples.lentByRunsheet}

@@ -7,7 +7,7 @@ use mathlib.Core.Bool.{Bool, true, false, cond}
 use mathlib.Core.List.{List, [], _∷_, _++_}
 use lib.{IntN.ℤ, IntN.negsuc, IntN.pos, IntN._+ℤ_, IntN._-ℤ_, IntN._*ℤ_, ListN.replicate, Signed.quotZ}
 use Rattle.model.specs.{Arith.least, Arith.outside, Arith.clampsBy, Arith.computed, Arith.quotient, Arith.isZero, Text.bytes, Command.blank, Job.Job, Sheet.accepted, Sheet.readSheet}
-use Rattle.model.specs.{Step.variable, Step.effectOf, State.Process, State.command, State.process, Run.stateAfter, Answer.numbersOf, Answer.runSheet, Secrecy.Alike}
+use Rattle.model.specs.{Step.variable, Step.effectOf, Process.Process, Process.command, State.process, Run.stateAfter, Answer.numbersOf, Answer.runSheet, Secrecy.Alike}
 use Rattle.model.specs.{Examples.Example, Examples.prints, Examples.lentByRunsheet}
 use Rattle.model.specs.Data.{Entry, Number, Secret, Op, Set, Add, Sub, Mul, Div, Read, Has, Put, Drop, IfNeg, IfZero, Jump, Receive, Send, Stop, Command, Low, High}
 

@@ -20,9 +20,10 @@ pub mod Form
 pub mod Sheet
 pub mod Arith
 pub mod Step
+pub mod Process
+pub mod Line
 pub mod State
 pub mod Message
-pub mod Line
 pub mod Verdict
 pub mod Run
 pub mod Answer

@@ -3,7 +3,7 @@ use Prim.Native.Nat.{ℕ, _+_, _*_}
 use mathlib.Core.List.{List, [], _∷_, _++_}
 use mathlib.Core.Bool.{cond}
 use lib.{IntN.ℤ, IntN.natAbs, Signed.nonNeg, ListN.replicate, ListN.length}
-use Rattle.model.specs.{Text.bytes, Text.lineFeed, Text.space, Text.plus, Text.minus, Text.dot, Decimal.digits, Placed.front, State.Sent}
+use Rattle.model.specs.{Text.bytes, Text.lineFeed, Text.space, Text.plus, Text.minus, Text.dot, Decimal.digits, Placed.front}
 use Rattle.model.specs.Data.{Entry, Absent, Number, Key}
 
 -- "a sign `+` or `-`"; "Zero has `+`."
@@ -23,6 +23,11 @@ cells (e ∷ es) = (space ∷ cell e) ++ cells es
 -- "`sent=`, the position in four digits"
 unfoldable pub heading : ℕ → List ℕ
 heading n = bytes "sent=" ++ digits 4 n
+
+-- A line that was sent: the position in it, and the entry of each key
+pub record Sent : Type 0 where
+  pub position : ℕ
+  pub columns : List Entry
 
 -- "A line feed ends it."
 unfoldable pub lineBytes : Sent → List ℕ

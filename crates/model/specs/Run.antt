@@ -2,11 +2,11 @@
 use mathlib.Core.List.{List, [], _∷_}
 use Prim.Native.Nat.{ℕ}
 use mathlib.Core.Bool.{Bool, cond}
-use lib.ListN.{length, take, replicate}
-use Rattle.model.specs.{State.Process, State.step, State.command, State.stopped, State.Role, State.leads, State.follows, State.role, State.leader, State.Sent}
+use lib.ListN.{length, take}
+use Rattle.model.specs.{Process.Process, Process.fresh, Process.step, Process.command, Process.stopped, Line.Sent, State.Role, State.leads, State.follows, State.role, State.leader}
 use Rattle.model.specs.{State.started, State.ticked, State.State, State.process, State.withProcess, State.withClock, State.noted, Message.receive, Message.send, Step.callOf}
-use Rattle.model.specs.{Step.begun, Verdict.Verdict, Verdict.GoesOn, Verdict.Ends, Verdict.verdict, Verdict.kindAt, Verdict.waits, Verdict.idles, Job.Job}
-use Rattle.model.specs.Data.{Entry, Absent, Key, Command, Call, Neither, Receives, Sends, Level, Ending, LettersUsed, Counts}
+use Rattle.model.specs.{Verdict.Verdict, Verdict.GoesOn, Verdict.Ends, Verdict.verdict, Verdict.kindAt, Verdict.waits, Verdict.idles, Job.Job}
+use Rattle.model.specs.Data.{Entry, Key, Command, Call, Neither, Receives, Sends, Level, Ending, LettersUsed, Counts}
 
 -- ---- Turns
 
@@ -91,15 +91,11 @@ runBy f ks cs room s (l ∷ ls) = let o = runBy f ks cs room (turnBy f ks cs l s
 abbrev pub run : List Key → List Command → ℕ → State → List Level → Outcome
 run ks cs room s ls = runBy following ks cs room s ls
 
--- "All fields are absent at first."
-unfoldable pub fresh : List Key → Process
-fresh ks = record { execution = begun; fields = replicate (length ks) Absent }
-
 -- the model's first state
 unfoldable pub initial : List Key → List (List Entry) → State
 initial ks ms =
     record {
-      processes = record { low = fresh ks; high = fresh ks };
+      processes = record { low = fresh (length ks); high = fresh (length ks) };
       kinds = [];
       incoming = record { rest = ms; taken = 0 };
       outgoing = record { sent = []; bytes = 0 };

@@ -1,41 +1,8 @@
 -- The state of a run: two executions, each with its own fields of the one message, the kinds of the calls made, what came in, what went out, and the clock.
 use mathlib.Core.List.{List, [], _∷_, _++_}
 use Prim.Native.Nat.{ℕ, _+_}
-use lib.{ListN.getD, ListN.set, ListN.length, Dec.leb}
-use mathlib.Core.Bool.{Bool}
-use Rattle.model.specs.{Step.does, Step.Stepped, Command.blank}
-use Rattle.model.specs.Data.{Entry, Absent, Set, Command, Call, Level, Low, High, Execution, Clock}
-
--- ---- One execution on its own fields
-
--- An execution with its own fields of the message, one for each key. "The low execution reads and changes only low fields, the high one only high
--- fields": what is not in here no command of it can reach.
-pub record Process : Type 0 where
-  pub execution : Execution
-  pub fields : List Entry
-
--- the entry at a key
-unfoldable pub entry : Process → ℕ → Entry
-entry p k = getD (p .fields) k Absent
-
--- the fields filled anew
-unfoldable pub refill : List Entry → Process → Process
-refill es p = record { execution = p .execution; fields = es }
-
-abbrev pub stored : Process → ℕ → Stepped → Process
-stored p k r = record { execution = r .execution; fields = set (p .fields) k (r .entry) }
-
--- one command, in a program of n commands
-unfoldable pub step : ℕ → Command → Process → Process
-step n c p = stored p (c .k) (does n c (p .execution) (entry p (c .k)))
-
--- the command at an execution's place
-unfoldable pub command : List Command → Process → Command
-command cs p = getD cs (p .execution .place) (blank Set)
-
--- "An execution at the end has stopped", the end being "the place after the last command"
-unfoldable pub stopped : List Command → Process → Bool
-stopped cs p = leb (length cs) (p .execution .place)
+use Rattle.model.specs.{Process.Process, Line.Sent}
+use Rattle.model.specs.Data.{Entry, Call, Level, Low, High, Clock}
 
 -- ---- The levels
 
@@ -74,11 +41,6 @@ each f ps = record { low = f Low (ps .low); high = f High (ps .high) }
 pub record Incoming : Type 0 where
   pub rest : List (List Entry)
   pub taken : ℕ
-
--- A line that was sent: the position in it, and the entry of each key
-pub record Sent : Type 0 where
-  pub position : ℕ
-  pub columns : List Entry
 
 -- What went out: the lines sent, and the bytes written
 pub record Outgoing : Type 0 where

@@ -3,8 +3,7 @@ use Prim.Native.Nat.{ℕ, _-_}
 use mathlib.Core.List.{List, [], _∷_}
 use lib.{Dec.ltb, ListN.getD}
 use mathlib.Core.Bool.{Bool, false, true, cond}
-use Rattle.model.specs.{State.Role, State.leads, State.follows, State.role, State.leader, State.State, State.command, State.process, State.stopped}
-use Rattle.model.specs.{Line.lineLength, Step.callOf}
+use Rattle.model.specs.{Step.callOf, Process.command, Process.stopped, Line.lineLength, State.Role, State.leads, State.follows, State.role, State.leader, State.State, State.process}
 use Rattle.model.specs.Data.{Key, Command, Call, Neither, Receives, Sends, Level, Ending, Stopped, LettersUsed, NoRoom}
 
 pub data Verdict : Type 0 where

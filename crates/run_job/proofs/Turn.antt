@@ -7,8 +7,8 @@ use native.Mathlib.{Nat.add-zero, Numerals.add-one, Omega.arith, Decide.decLt}
 use lib.{IntN.ℤ, Dec.ltb, Dec.leb, ListN.length, ListN.getD, ListN.drop, ListN.set, ListN.drop-of-length-le, Seq.drop-cons}
 use borrow.Author.Tests.{lt-ltb, le-ltb, lt-leb, le-leb}
 use Rattle.model.specs.{Step.variable, Step.afterOf, Step.calledOf, Step.effectOf, Step.Stepped, Step.steppedBy, Step.does, Step.callOf, Step.callsBy, Stored.keysIn}
-use Rattle.model.specs.{Stored.entriesIn, Stored.side, Stored.withSide, Stored.held, Stored.absentField, Stored.kindOf, Stored.kindsIn, Stored.jobOf, State.Process, State.Sent}
-use Rattle.model.specs.{State.entry, State.stored, State.step, State.command, State.stopped, State.Role, State.leads, State.follows, State.role, State.refill}
+use Rattle.model.specs.{Stored.entriesIn, Stored.side, Stored.withSide, Stored.held, Stored.absentField, Stored.kindOf, Stored.kindsIn, Stored.jobOf, Process.Process, Line.Sent}
+use Rattle.model.specs.{Process.entry, Process.stored, Process.step, Process.command, Process.stopped, State.Role, State.leads, State.follows, State.role, Process.refill}
 use Rattle.model.specs.{State.put, State.each}
 use Rattle.model.specs.{State.takenOf, State.takes, State.sends, State.ticked, State.State, State.process, State.fieldsOf, State.withProcess, Message.source}
 use Rattle.model.specs.{Message.received}
