@@ -30,7 +30,7 @@ agree Sends Receives n d = absurd (d refl)
 agree Sends Sends n d = (n, refl)
 
 -- one of its kind lets it go
-alike : (k : Call) → waits k k ≡ false
+pub alike : (k : Call) → waits k k ≡ false
 unfolding waits
 alike Neither = refl
 alike Receives = refl
@@ -64,12 +64,21 @@ module _ (cs : List Command) (kinds : List Call) (p : Process) where
       go (yes b) = b
       go (no b) = absurd (n (List·getD-eq-default kinds Neither (omega arith)))
 
-  pub moves-on : MovesOn cs kinds p
+  -- one that has stopped rests
+  pub rests : stopped cs p ≡ true → followed cs kinds p ≡ p
+  unfolding followed idles
+  rests e = rw e
+
+  -- one whose command is of the kind of the low call of its number goes on; so does one that is no call, where that call has not been made
+  pub goes-on : stopped cs p ≡ false → low ≡ own → followed cs kinds p ≡ step (length cs) (command cs p) p
   unfolding followed waitsAt idles
+  goes-on going e = rw (going, e, alike own)
+
+  pub moves-on : MovesOn cs kinds p
   moves-on =
       record {
         only = λ call moves. let a = agree own low call (λ e. moves (waiting e)) in record { made = made-if (a .0); kind = a .1 };
-        moves = λ going k. rw (going, k .kind, alike own);
+        moves = λ going k. goes-on going (k .kind);
       }
 
   -- a call of the other kind waits
@@ -118,10 +127,10 @@ module _ (ks : List Key) (cs : List Command) where
       ∙ ap (λ (k : List Call). s .kinds ++ k) (first-calls (role l) (process leader s) later)
 
   -- there are as many kinds as the leader counts calls
-  abbrev Counts : State → Type 0
+  abbrev pub Counts : State → Type 0
   Counts s = length (s .kinds) ≡ countAt calls leader s
 
-  turn-counts : (l : Level) (s : State) → Counts s → Counts (turn ks cs l s)
+  pub turn-counts : (l : Level) (s : State) → Counts s → Counts (turn ks cs l s)
   unfolding callsIn calls
   turn-counts l s h =
       ap length (turn-kinds ks cs s l)

@@ -19,7 +19,7 @@ use Rattle.model.specs.Data.{Entry, Key, Command, Call, Neither, Receive
 use Rattle.model.proofs.{Accepted.every-snoc, Levels.Changed, Levels.same, Levels.other, Levels.changed, Turn.Counter, Turn.clamped, Turn.countAt, Turn.addedBy, Turn.turn-count}
 use Rattle.model.proofs.{Turn.share-execution, Turn.clock-kept, Turn.turn-clock, Line.Lined, Line.bytes-length}
 
-columns-length : (i : ℕ) (ks : List Key) (f : Level → List Entry) → length (columns i ks f) ≡ length ks
+pub columns-length : (i : ℕ) (ks : List Key) (f : Level → List Entry) → length (columns i ks f) ≡ length ks
 unfolding columns
 columns-length i [] f = refl
 columns-length i (k ∷ ks) f = ap suc (columns-length (suc i) ks f)

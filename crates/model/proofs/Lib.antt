@@ -17,3 +17,6 @@ pub mod Witness
 pub mod CallKinds
 pub mod Clamped
 pub mod Written
+pub mod Plain
+pub mod Honest
+pub mod HonestExamples

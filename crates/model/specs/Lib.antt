@@ -35,3 +35,6 @@ pub mod Examples
 pub mod Witness
 pub mod CallKinds
 pub mod Clamped
+pub mod Plain
+pub mod Honest
+pub mod HonestExamples

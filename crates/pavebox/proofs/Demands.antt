@@ -1,18 +1,21 @@
--- Demands 1, 2 and 3 and the seventh number, from the entry's contract and the theorems about the model.
+-- Demands 1, 2 and 3, the seventh number and what honest programs send, from the entry's contract and the theorems about the model.
 use Prim.Native.Nat.{ℕ, _-_, _≤_}
 use mathlib.Core.Path.{_≡_, refl, sym, ap, _∙_}
 use mathlib.Core.List.{List, []}
 use native.Mathlib.Omega.{arith}
-use lib.ListN.{length, getD, drop}
-use Rattle.model.specs.{Answer.After, Answer.Left, Answer.numbersOf, Answer.bytesFor, Answer.allLe32, Answer.answeredBy, Answer.leftBy, Answer.numberCount, Answer.runSheet, Answer.entered, Answer.runEntry, Answer.le32}
+use lib.ListN.{length, getD, take, drop}
+use Rattle.model.specs.{Answer.After, Answer.Left, Answer.numbersOf, Answer.bytesFor, Answer.bytesWritten, Answer.allLe32, Answer.answeredBy, Answer.leftBy, Answer.numberCount, Answer.runSheet, Answer.entered, Answer.runEntry, Answer.le32}
 use Rattle.model.specs.{Job.Job, Placed.front, Line.bytesOf, Line.memoryAfter, Sheet.Reading, Sheet.accepted, Sheet.readSheet, Run.runJob, Secrecy.Indistinguishable, Witness.sheet2}
 use Rattle.model.specs.{Witness.sheet3, Witness.job2, Witness.job3, Witness.lent}
 use Rattle.model.specs.Sheet as Sheet
+use Rattle.model.specs.HonestExamples.{jobOf, sheetHonest}
 use Rattle.model.specs.declared.Level.the-variants.{High}
-use Rattle.model.proofs.{Placed.front-length, Counted.counts-of, Examples.opened, Secrecy.secrecy, Witness.telling as witness}
+use Rattle.model.specs.declared.Answer.{Answer}
+use Rattle.model.specs.declared.Answer.the-variants.{Ended, Refused}
+use Rattle.model.proofs.{Placed.front-length, Counted.counts-of, Examples.opened, Secrecy.secrecy, Witness.telling as witness, Honest.honest-sheet-loses-nothing, HonestExamples.computed, HonestExamples.honest-example}
 use Rattle.whole_sheet.proofs.Laws.{accepted-left, refused-left}
 use Rattle.pavebox.proofs.Laws.{entered-sized}
-use Rattle.pavebox.specs.Demands.{Called, Demand2, Demand1Holds, Demand2Holds, SeventhHolds, Demand3Holds, answerLent, CalledOn, Telling}
+use Rattle.pavebox.specs.Demands.{Called, Demand2, Demand1Holds, Demand2Holds, SeventhHolds, HonestHolds, Demand3Holds, answerLent, CalledOn, Telling, lentHonest, HonestTelling}
 
 -- ---- What a run sends fits the memory that is lent to it
 
@@ -75,10 +78,28 @@ demand-3 s t j k o a₁ a₂ r₁ r₂ o₁ o₂ b₁ b₂ es et h c₁ c₂ =
       byte = λ p clear. ap (λ (m : List ℕ). getD m p 0) (d₁ .memory ∙ ap (λ (z : Left). z .memory) x) ∙ i .byte p clear ∙ sym (ap (λ (m : List ℕ). getD m p 0) (d₂ .memory ∙ ap (λ (z : Left). z .memory) y));
     }
 
+pub loses-nothing : HonestHolds
+unfolding numbersOf allLe32 le32
+loses-nothing s o a r o′ a′ c j N read turns honest room =
+    let d = second c in
+    let p = honest-sheet-loses-nothing s j N o read turns honest room in
+    record {
+      lines = d .memory ∙ p .memory;
+      written =
+          ap (λ (b : List ℕ). take (bytesFor 1) (drop (bytesFor 4) b)) (d .numbers)
+          ∙ fifth (runSheet s o .answer)
+          ∙ ap le32 (p .written);
+    }
+  where
+    -- the fifth number of an answer
+    fifth : (x : Answer) → take (bytesFor 1) (drop (bytesFor 4) (allLe32 (numbersOf x))) ≡ le32 (bytesWritten (numbersOf x))
+    fifth (Ended e n) = refl
+    fifth (Refused n l) = refl
+
 -- ---- The demands speak of something
 
-on : (s : List ℕ) → CalledOn s
-on s = record { sized = refl; met = record { returns = refl; outputs = refl; answers = refl } }
+on : (o s : List ℕ) → CalledOn o s
+on o s = record { sized = refl; met = record { returns = refl; outputs = refl; answers = refl } }
 
 pub seventh : SeventhHolds
 unfolding numbersOf allLe32 le32
@@ -95,13 +116,24 @@ pub telling : Telling
 unfolding opened entered runEntry le32 allLe32
 telling =
     record {
-      second = on sheet2;
-      third = on sheet3;
-      empty = on [];
-      holds = demand-3 sheet2 sheet3 job2 job3 lent answerLent answerLent _ _ _ _ _ _ (witness .accepts2) (witness .accepts3) (witness .alike) (on sheet2) (on sheet3);
+      second = on lent sheet2;
+      third = on lent sheet3;
+      empty = on lent [];
+      holds = demand-3 sheet2 sheet3 job2 job3 lent answerLent answerLent _ _ _ _ _ _ (witness .accepts2) (witness .accepts3) (witness .alike) (on lent sheet2) (on lent sheet3);
       differs = λ e. omega arith;
       apart = λ d. omega (arith, d .byte 20 (λ h. omega (arith, witness .clear 20 h)));
       ended = refl;
       refuses = refl;
       old = refl;
+    }
+
+pub honest-telling : HonestTelling
+unfolding computed entered runEntry le32 allLe32 sheetHonest
+honest-telling =
+    record {
+      called = on lentHonest sheetHonest;
+      holds =
+          loses-nothing sheetHonest lentHonest answerLent _ _ _ (on lentHonest sheetHonest) (jobOf sheetHonest) 12
+          (honest-example .compared .accepts) (honest-example .compared .turns) (honest-example .honest) (omega arith);
+      output = refl;
     }

@@ -1,12 +1,13 @@
--- The three demands, and Note 3's number, of what the C entry returns and leaves; a call is stated by the contract that the entry is proved to meet.
+-- The three demands, Note 3's number and Note 4's claim, of what the C entry returns and leaves; a call is stated by the contract that the entry is proved to meet.
 use Prim.Native.Nat.{ℕ, _+_}
 use mathlib.Core.Path.{_≡_}
 use mathlib.Core.Logic.{_≢_}
-use mathlib.Core.List.{List, [], _++_}
-use lib.ListN.{length, getD, drop, replicate}
+use mathlib.Core.List.{List, [], _∷_, _++_}
+use lib.ListN.{length, getD, take, drop, replicate}
 use Rattle.model.specs.{Answer.After, Answer.numbersOf, Answer.le32, Answer.allLe32, Answer.bytesFor, Answer.answerBytes, Answer.runSheet, Answer.runEntry, Job.Job, Line.bytesOf, Sheet.accepted}
 use Rattle.model.specs.{Sheet.readSheet, Run.runJob, Secrecy.Alike, Secrecy.Hidden, Witness.sheet2, Witness.sheet3, Witness.otherSheet, Witness.job2, Witness.job3}
-use Rattle.model.specs.{Run.lowTurnsOf, Clamped.clampedIn, Witness.lent}
+use Rattle.model.specs.{Run.lowTurnsOf, Clamped.clampedIn, Witness.lent, Text.bytes, Honest.pairs, Honest.Honest, Honest.plainLines, Honest.HoldsLines}
+use Rattle.model.specs.HonestExamples.{jobOf, sheetHonest, linesHonest}
 use Rattle.model.specs.Sheet as Sheet
 use Rattle.model.specs.declared.{Level.the-variants.High, Answer.the-variants.Refused}
 use Rattle.pavebox.specs.Entry.{Answered}
@@ -44,6 +45,12 @@ pub record Seventh (sheet output answer : List ℕ) (returned : ℕ) (output′ 
   pub accepts : (j : Job) → readSheet sheet ≡ accepted j → drop (bytesFor 6) answer′ ≡ le32 (clampedIn (j .commands) (lowTurnsOf j (runJob j (length output) .counts .positions)))
   pub refuses : (n l : ℕ) → readSheet sheet ≡ Sheet.refused n l → drop (bytesFor 6) answer′ ≡ le32 0
 
+-- Document 02, Note 4, "Honest programs lose nothing": what the plain run of N steps on the real messages sends stands in the output memory, and behind it the old
+-- bytes; and the bytes written, the fifth number in the answer memory, are those lines'
+pub record LosesNothing (output : List ℕ) (j : Job) (N : ℕ) (output′ answer′ : List ℕ) : Type 0 where
+  pub lines : output′ ≡ bytesOf (plainLines j N) ++ drop (length (bytesOf (plainLines j N))) output
+  pub written : take (bytesFor 1) (drop (bytesFor 4) answer′) ≡ le32 (length (bytesOf (plainLines j N)))
+
 abbrev pub Demand1Holds : Type 0
 Demand1Holds = (s o a : List ℕ) (r : ℕ) (o′ a′ : List ℕ) → Called s o a r o′ a′ → Demand1 s o a r o′ a′
 
@@ -52,6 +59,13 @@ Demand2Holds = (s o a : List ℕ) (r : ℕ) (o′ a′ : List ℕ) → Called s 
 
 abbrev pub SeventhHolds : Type 0
 SeventhHolds = (s o a : List ℕ) (r : ℕ) (o′ a′ : List ℕ) → Called s o a r o′ a′ → Seventh s o a r o′ a′
+
+-- of an accepted sheet whose turns are N times LH, where the program is honest and the output memory holds all the lines
+abbrev pub HonestHolds : Type 0
+HonestHolds =
+    (s o a : List ℕ) (r : ℕ) (o′ a′ : List ℕ) → Called s o a r o′ a′
+    → (j : Job) (N : ℕ) → readSheet s ≡ accepted j → j .turns ≡ pairs N → Honest j N → HoldsLines j N (length o)
+    → LosesNothing o j N o′ a′
 
 abbrev pub Demand3Holds : Type 0
 Demand3Holds =
@@ -62,16 +76,19 @@ Demand3Holds =
 
 -- ---- The demands speak of something
 
--- an answer memory of 28 bytes, and what the entry returns and leaves for a sheet on it and on some memory
+-- an answer memory of 28 bytes, and what the entry returns and leaves for a sheet on it and on an output memory, some memory if no other is named
 abbrev pub answerLent : List ℕ
 answerLent = replicate answerBytes 0
 
-abbrev pub after : List ℕ → After
-after s = runEntry s lent answerLent
+abbrev pub afterOn : List ℕ → List ℕ → After
+afterOn o s = runEntry s o answerLent
 
--- a call with the sheet s that returns and leaves just that
-abbrev pub CalledOn : List ℕ → Type 0
-CalledOn s = Called s lent answerLent (after s .returned) (after s .output) (after s .answer)
+abbrev pub after : List ℕ → After
+after s = afterOn lent s
+
+-- a call with the sheet s and the output memory o that returns and leaves just that
+abbrev pub CalledOn : List ℕ → List ℕ → Type 0
+CalledOn o s = Called s o answerLent (afterOn o s .returned) (afterOn o s .output) (afterOn o s .answer)
 
 -- demand 3 of calls with the sheets s and t, read as two jobs
 abbrev pub Demand3Of : List ℕ → List ℕ → Job → Job → Type 0
@@ -81,12 +98,22 @@ Demand3Of s t a b = Demand3 s t a b lent (after s .returned) (after t .returned)
 -- 22 in the secret column; it would be false of a sheet with another open entry. An accepted sheet returns 0, the empty one 2; with an answer memory of 24
 -- bytes, which six numbers took, it returns 10 and leaves both memories as they were.
 pub record Telling : Type 0 where
-  pub second : CalledOn sheet2
-  pub third : CalledOn sheet3
-  pub empty : CalledOn []
+  pub second : CalledOn lent sheet2
+  pub third : CalledOn lent sheet3
+  pub empty : CalledOn lent []
   pub holds : Demand3Of sheet2 sheet3 job2 job3
   pub differs : getD (after sheet2 .output) 22 0 ≢ getD (after sheet3 .output) 22 0
   pub apart : ¬ Demand3Of sheet2 otherSheet job2 job2
   pub ended : after sheet2 .returned ≡ 0
   pub refuses : after [] .returned ≡ 2
   pub old : runEntry sheet2 lent (replicate 24 0) ≡ record { returned = 10; output = lent; answer = replicate 24 0 }
+
+-- a memory that has two bytes more than the lines of the honest program
+abbrev pub lentHonest : List ℕ
+lentHonest = replicate 70 7
+
+-- Note 4's claim applies to a call with the honest program's sheet, and this is what it leaves
+pub record HonestTelling : Type 0 where
+  pub called : CalledOn lentHonest sheetHonest
+  pub holds : LosesNothing lentHonest (jobOf sheetHonest) 12 (afterOn lentHonest sheetHonest .output) (afterOn lentHonest sheetHonest .answer)
+  pub output : afterOn lentHonest sheetHonest .output ≡ bytes linesHonest ++ (7 ∷ 7 ∷ [])

@@ -1,0 +1,100 @@
+-- The laws of a plain run: of one step, and of every step.
+use Prim.Native.Nat.{ℕ, zero, suc, _+_}
+use mathlib.Core.Path.{_≡_, refl, sym, _∙_, ap, ap₂}
+use mathlib.Core.Bool.{Bool, true, false}
+use mathlib.Core.List.{List, [], _∷_}
+use lib.{Dec.leb, ListN.length, ListN.getD, ListN.drop, ListN.length-set, ListN.length-replicate}
+use native.Mathlib.Nat.{add-zero}
+use Rattle.model.specs.{Command.blank, Step.callOf, Step.callsBy, Process.Process, Process.fresh, Process.refill, Process.step, Process.command, Process.stopped}
+use Rattle.model.specs.Plain.{PlainJob, Alone, filled, nextFields, calling, callNow, called, stepAlone, plainAt, callAtStep, entriesAtStep}
+use Rattle.model.specs.Data.{Entry, Absent, Set, Command, Call, Neither, Receives, Sends, Execution}
+use Rattle.model.proofs.Turn.{calls}
+
+-- ---- What depends on the record of an execution alone
+
+pub stopped-of : (cs : List Command) (p q : Process) → p .execution ≡ q .execution → stopped cs p ≡ stopped cs q
+unfolding stopped
+stopped-of cs p q e = ap (λ (x : Execution). leb (length cs) (x .place)) e
+
+pub command-of : (cs : List Command) (p q : Process) → p .execution ≡ q .execution → command cs p ≡ command cs q
+unfolding command
+command-of cs p q e = ap (λ (x : Execution). getD cs (x .place) (blank Set)) e
+
+-- and its calls leave that record
+pub calling-execution : (k : Call) (n : ℕ) (a : Alone) → calling k n a .process .execution ≡ a .process .execution
+unfolding calling refill
+calling-execution Neither n a = refl
+calling-execution Receives n a = refl
+calling-execution Sends n a = refl
+
+-- ---- One step
+
+module _ (n : ℕ) (cs : List Command) (a : Alone) where
+  pub now-stopped : stopped cs (a .process) ≡ true → callNow cs a ≡ Neither
+  unfolding callNow
+  now-stopped e = rw e
+
+  pub now-going : stopped cs (a .process) ≡ false → callNow cs a ≡ callOf (command cs (a .process) .op)
+  unfolding callNow
+  now-going e = rw e
+
+  pub step-stopped : stopped cs (a .process) ≡ true → stepAlone n cs a ≡ a
+  unfolding stepAlone
+  step-stopped e = rw e
+
+  pub step-going : stopped cs (a .process) ≡ false
+      → stepAlone n cs a ≡ record { process = step (length cs) (command cs (a .process)) (called n cs a .process); rest = called n cs a .rest }
+  unfolding stepAlone
+  step-going e = rw e
+
+  -- it counts the call that it makes
+  pub step-counts : stepAlone n cs a .process .execution .calls ≡ a .process .execution .calls + callsBy (callNow cs a)
+  unfolding calls
+  step-counts = go (stopped cs (a .process)) refl
+    where
+      go : (b : Bool) → stopped cs (a .process) ≡ b → stepAlone n cs a .process .execution .calls ≡ a .process .execution .calls + callsBy (callNow cs a)
+      go true e = ap (λ (x : Alone). x .process .execution .calls) (step-stopped e) ∙ sym (add-zero _) ∙ ap (λ (k : Call). a .process .execution .calls + callsBy k) (sym (now-stopped e))
+      go false e =
+          ap (λ (x : Alone). x .process .execution .calls) (step-going e)
+          ∙ calls .stepped (length cs) (command cs (a .process)) (called n cs a .process)
+          ∙ ap₂ (λ (x : Execution) (k : Call). x .calls + callsBy k) (calling-execution (callNow cs a) n a) (sym (now-going e))
+
+-- ---- It has as many fields as there are keys
+
+filled-length : (n : ℕ) (es : List Entry) → length (filled n es) ≡ n
+unfolding filled
+filled-length zero es = refl
+filled-length (suc n) es = ap suc (filled-length n (drop 1 es))
+
+next-length : (n : ℕ) (ms : List (List Entry)) → length (nextFields n ms) ≡ n
+unfolding nextFields
+next-length n [] = length-replicate n Absent
+next-length n (m ∷ ms) = filled-length n m
+
+calling-length : (k : Call) (n : ℕ) (a : Alone) → length (a .process .fields) ≡ n → length (calling k n a .process .fields) ≡ n
+unfolding calling refill
+calling-length Neither n a h = h
+calling-length Receives n a h = next-length n (a .rest)
+calling-length Sends n a h = h
+
+step-length : (n : ℕ) (cs : List Command) (a : Alone) → length (a .process .fields) ≡ n → length (stepAlone n cs a .process .fields) ≡ n
+unfolding step
+step-length n cs a h = go (stopped cs (a .process)) refl
+  where
+    go : (b : Bool) → stopped cs (a .process) ≡ b → length (stepAlone n cs a .process .fields) ≡ n
+    go true e = ap (λ (x : Alone). length (x .process .fields)) (step-stopped n cs a e) ∙ h
+    go false e =
+        ap (λ (x : Alone). length (x .process .fields)) (step-going n cs a e)
+        ∙ length-set (called n cs a .process .fields) (command cs (a .process) .k) _
+        ∙ calling-length (callNow cs a) n a h
+
+pub plain-length : (j : PlainJob) (s : ℕ) → length (plainAt j s .process .fields) ≡ j .keys
+unfolding plainAt fresh
+plain-length j zero = length-replicate (j .keys) Absent
+plain-length j (suc s) = step-length (j .keys) (j .commands) (plainAt j s) (plain-length j s)
+
+-- ---- A step that sends sends its fields
+
+pub sends-fields : (j : PlainJob) (s : ℕ) → callAtStep j s ≡ Sends → entriesAtStep j s ≡ plainAt j s .process .fields
+unfolding callAtStep entriesAtStep calling
+sends-fields j s e = ap (λ (k : Call). calling k (j .keys) (plainAt j s) .process .fields) e
