@@ -7,23 +7,25 @@ use mathlib.Core.List.{List, [], _∷_, _++_, map, append-nil, append-assoc}
 use lib.{ListN.length, ListN.getD, ListN.drop, ListN.length-append, Seq.ext-getD, Seq.getD-append-add}
 use borrow.Author.Tests.{le-ltb}
 use native.Mathlib.{Omega.arith, Nat.add-zero, Nat.mul-add, Nat.mul-suc}
-use Rattle.model.specs.{Job.Job, Step.callOf, Step.kindsBy, Step.callsBy, Process.Process, Process.fresh, Process.refill, Process.step, Process.command, Process.stopped, Line.Sent}
-use Rattle.model.specs.{Line.lineLength, Line.bytesOf, Line.memoryAfter, Placed.front, State.State, State.Outgoing, State.fieldsOf, State.at, State.put, State.takenOf, State.takes, State.sends}
-use Rattle.model.specs.{State.process, State.noted, Message.shown, Message.fill, Message.received, Message.receive, Message.source, Message.columns, Message.lineNow, Message.send}
-use Rattle.model.specs.{Verdict.short, Verdict.noRoom, Verdict.verdictBy, Verdict.verdict, Verdict.kindAt, Run.Outcome, Run.share, Run.lead, Run.followed, Run.turnBy, Run.turn, Run.ended, Run.settle}
+use Rattle.model.specs.{Job.Job, Step.callOf, Step.kindsBy, Step.callsBy, Process.Process, Process.fresh, Process.refill, Process.step, Process.command}
+use Rattle.model.specs.{Process.stopped, Line.Sent}
+use Rattle.model.specs.{Line.lineLength, Line.bytesOf, Line.memoryAfter, Placed.front, State.State, State.Outgoing, State.fieldsOf, State.at, State.put}
+use Rattle.model.specs.{State.takenOf, State.takes, State.sends}
+use Rattle.model.specs.{State.process, State.noted, Message.shown, Message.fill, Message.received, Message.receive, Message.source, Message.columns}
+use Rattle.model.specs.{Message.lineNow, Message.send}
+use Rattle.model.specs.{Verdict.short, Verdict.noRoom, Verdict.verdictBy, Verdict.verdict, Verdict.kindAt, Run.Outcome, Run.share, Run.lead, Run.followed}
+use Rattle.model.specs.{Run.turnBy, Run.turn, Run.ended, Run.settle}
 use Rattle.model.specs.{Run.runBy, Run.run, Run.initial, Run.runJobBy, Answer.numbersOf, Answer.runSheet}
 use Rattle.model.specs.Plain.{PlainJob, Alone, filled, nextFields, calling, callNow, called, stepAlone, plainAt, callAtStep, entriesAtStep}
-use Rattle.model.specs.Honest.{pairs, dummyAt, dummied, onReal, onDummies, Honest, lineOfStep, linesFrom, HoldsLines, HonestLosesNothing, HonestSheetLosesNothing, PairsWithin}
+use Rattle.model.specs.Honest.{pairs, dummyAt, dummied, onReal, onDummies, Honest, lineOfStep, linesFrom, HoldsLines, HonestLosesNothing, HonestSheetLosesNothing}
+use Rattle.model.specs.Honest.{PairsWithin}
 use Rattle.model.specs.Data.{Entry, Absent, Number, Key, Open, Secret, Command, Call, Neither, Receives, Sends, Level, Low, High, Execution, Clock, LettersUsed}
-use Rattle.model.proofs.{Accepted.accepted-sound, Levels.at-each, Turn.calls, Turn.share-kinds, Turn.turn-clock, Counted.columns-length, Counted.counts-of, CallKinds.Counts, CallKinds.rests, CallKinds.goes-on, CallKinds.turn-counts}
-use Rattle.model.proofs.Plain.{stopped-of, command-of, calling-execution, now-stopped, now-going, step-stopped, step-going, step-counts, plain-length, sends-fields}
+use Rattle.model.proofs.{Accepted.accepted-sound, Levels.at-each, Turn.calls, Turn.share-kinds, Turn.turn-clock, Counted.columns-length, Counted.counts-of}
+use Rattle.model.proofs.{CallKinds.Counts, CallKinds.rests, CallKinds.goes-on, CallKinds.turn-counts}
+use Rattle.model.proofs.Plain.{stopped-of, command-of, calling-execution, now-stopped, now-going, moved, by-step, step-stopped, step-going, step-counts}
+use Rattle.model.proofs.Plain.{plain-length, sends-fields}
 
 -- ---- What a level is shown of the message lines
-
-high-shown : (k : Key) (e : Entry) → e ≡ shown High k e
-unfolding shown
-high-shown Open e = refl
-high-shown (Secret d) e = refl
 
 dummy-shown : (k : Key) (e : Entry) → dummyAt k e ≡ shown Low k e
 unfolding dummyAt shown
@@ -31,18 +33,29 @@ dummy-shown Open e = refl
 dummy-shown (Secret d) Absent = refl
 dummy-shown (Secret d) (Number z) = refl
 
-filled-high : (ks : List Key) (es : List Entry) → filled (length ks) es ≡ fill High ks es
-unfolding filled fill
-filled-high [] es = refl
-filled-high (k ∷ ks) es = ap₂ _∷_ (high-shown k (getD es 0 Absent)) (filled-high ks (drop 1 es))
+-- the line of which a level is shown all: the low one, that with the dummies
+abbrev lineFor : Level → List Key → List Entry → List Entry
+lineFor Low ks es = dummied ks es
+lineFor High ks es = es
 
-filled-low : (ks : List Key) (es : List Entry) → filled (length ks) (dummied ks es) ≡ fill Low ks es
-unfolding filled fill dummied
-filled-low [] es = refl
-filled-low (k ∷ ks) es = ap₂ _∷_ (dummy-shown k (getD es 0 Absent)) (filled-low ks (drop 1 es))
+first-shown : (l : Level) (k : Key) (ks : List Key) (es : List Entry) → getD (lineFor l (k ∷ ks) es) 0 Absent ≡ shown l k (getD es 0 Absent)
+unfolding dummied shown
+first-shown Low k ks es = dummy-shown k (getD es 0 Absent)
+first-shown High Open ks es = refl
+first-shown High (Secret d) ks es = refl
+
+rest-shown : (l : Level) (k : Key) (ks : List Key) (es : List Entry) → drop 1 (lineFor l (k ∷ ks) es) ≡ lineFor l ks (drop 1 es)
+unfolding dummied
+rest-shown Low k ks es = refl
+rest-shown High k ks es = refl
+
+filled-shown : (l : Level) (ks : List Key) (es : List Entry) → filled (length ks) (lineFor l ks es) ≡ fill l ks es
+unfolding filled fill
+filled-shown l [] es = refl
+filled-shown l (k ∷ ks) es = ap₂ _∷_ (first-shown l k ks es) (ap (filled (length ks)) (rest-shown l k ks es) ∙ filled-shown l ks (drop 1 es))
 
 module _ (ks : List Key) where
-  -- the lines of which a level is shown what a plain run on them is
+  -- and all lines that are left
   abbrev seen : Level → List (List Entry) → List (List Entry)
   seen Low ms = map (dummied ks) ms
   seen High ms = ms
@@ -50,9 +63,9 @@ module _ (ks : List Key) where
   next-shown : (l : Level) (ms : List (List Entry)) → nextFields (length ks) (seen l ms) ≡ received ks ms l
   unfolding nextFields received
   next-shown Low [] = refl
-  next-shown Low (m ∷ ms) = filled-low ks m
+  next-shown Low (m ∷ ms) = filled-shown Low ks m
   next-shown High [] = refl
-  next-shown High (m ∷ ms) = filled-high ks m
+  next-shown High (m ∷ ms) = filled-shown High ks m
 
   rest-seen : (l : Level) (ms : List (List Entry)) (n : ℕ) → drop 1 (seen l ms) ≡ seen l (takenOf ms n .rest)
   rest-seen Low [] n = refl
@@ -84,27 +97,25 @@ module _ (n : ℕ) (cs : List Command) (kinds : List Call) (a : Alone) (agreed :
   still : own .process .execution ≡ a .process .execution
   still = calling-execution (callNow cs a) n a
 
-  rested : stopped cs (a .process) ≡ true → record { process = followed cs kinds (own .process); rest = own .rest } ≡ stepAlone n cs a
+  abbrev follower : Alone
+  follower = record { process = followed cs kinds (own .process); rest = own .rest }
+
+  rested : stopped cs (a .process) ≡ true → follower ≡ a
   unfolding calling
   rested e =
       ap (λ (p : Process). record { process = p; rest = own .rest }) (rests cs kinds (own .process) (stopped-of cs (own .process) (a .process) still ∙ e))
       ∙ ap (λ (k : Call). calling k n a) (now-stopped n cs a e)
-      ∙ sym (step-stopped n cs a e)
 
-  gone-on : stopped cs (a .process) ≡ false → record { process = followed cs kinds (own .process); rest = own .rest } ≡ stepAlone n cs a
+  gone-on : stopped cs (a .process) ≡ false → follower ≡ moved n cs a
   gone-on e =
       let same = command-of cs (own .process) (a .process) still in
       let going = stopped-of cs (own .process) (a .process) still ∙ e in
       let kind = ap (λ (x : Execution). kindAt kinds (x .calls)) still ∙ agreed ∙ now-going n cs a e ∙ ap (λ (c : Command). callOf (c .op)) (sym same) in
       ap (λ (p : Process). record { process = p; rest = own .rest }) (goes-on cs kinds (own .process) going kind ∙ ap (λ (c : Command). step (length cs) c (own .process)) same)
-      ∙ sym (step-going n cs a e)
 
-  followed-alone : record { process = followed cs kinds (own .process); rest = own .rest } ≡ stepAlone n cs a
-  followed-alone = go (stopped cs (a .process)) refl
-    where
-      go : (b : Bool) → stopped cs (a .process) ≡ b → record { process = followed cs kinds (own .process); rest = own .rest } ≡ stepAlone n cs a
-      go true e = rested e
-      go false e = gone-on e
+  -- it does what a plain run does
+  follower-step : follower ≡ stepAlone n cs a
+  follower-step = by-step n cs a (λ b. follower ≡ b) rested gone-on
 
 -- the kind behind the others is the call's; of a command that is no call there is none
 last-kind : (k : Call) (kinds : List Call) → kindAt (kinds ++ kindsBy k) (length kinds) ≡ k
@@ -148,7 +159,7 @@ module _ (ks : List Key) (cs : List Command) (s : State) where
     high-step : stepAlone (length ks) cs (alone ks High s) ≡ alone ks High whole
     unfolding turnBy at put
     high-step =
-        sym (followed-alone (length ks) cs (half .kinds) (alone ks High s) agreed)
+        sym (follower-step (length ks) cs (half .kinds) (alone ks High s) agreed)
         ∙ ap (λ (b : Alone). record { process = followed cs (half .kinds) (b .process); rest = b .rest }) high-called
 
   -- the high turn leaves the low execution and the output
@@ -280,7 +291,9 @@ module _ (j : Job) (N lent : ℕ) (honest : Honest j N) where
 
     even : process High s .execution .calls ≡ length (s .kinds)
     unfolding at calls
-    even = ap (λ (a : Alone). a .process .execution .calls) (sym (h .high)) ∙ as-many m (omega arith) ∙ ap (λ (a : Alone). a .process .execution .calls) (h .low) ∙ sym (h .kinds)
+    even =
+        let count : Alone → ℕ = λ a. a .process .execution .calls in
+        ap count (sym (h .high)) ∙ as-many m (omega arith) ∙ ap count (h .low) ∙ sym (h .kinds)
 
     -- the line that it sends, if it sends
     abbrev line : List Sent
@@ -316,7 +329,9 @@ module _ (j : Job) (N lent : ℕ) (honest : Honest j N) where
     half-low = ap (stepAlone (length ks) cs) (h .low) ∙ low-step ks cs s going
 
     has-room : short low-call (lent - s .outgoing .bytes) (lineLength ks) ≡ false
-    has-room = room-for ks s m (entriesAtStep real m) low-call lent (linesFrom real (suc m) n) (subst (λ (ls : List Sent). s .outgoing .bytes + lineLength ks * length ls ≤ lent) lines-split (h .room))
+    has-room =
+        room-for ks s m (entriesAtStep real m) low-call lent (linesFrom real (suc m) n)
+        (subst (λ (ls : List Sent). s .outgoing .bytes + lineLength ks * length ls ≤ lent) lines-split (h .room))
 
     clock-after : whole ks cs s .clock .positions ≡ 2 * suc m
     clock-after =
@@ -327,8 +342,8 @@ module _ (j : Job) (N lent : ℕ) (honest : Honest j N) where
     room-after : whole ks cs s .outgoing .bytes + lineLength ks * length (linesFrom real (suc m) n) ≤ lent
     room-after =
         let later = linesFrom real (suc m) n in
-        let both : length (linesFrom real m (suc n)) ≡ length line + length later = ap length lines-split ∙ length-append line later in
-        let split : lineLength ks * length (linesFrom real m (suc n)) ≡ lineLength ks * length line + lineLength ks * length later = ap (λ (i : ℕ). lineLength ks * i) both ∙ mul-add (lineLength ks) (length line) (length later) in
+        let both = ap length lines-split ∙ length-append line later in
+        let split = ap (λ (i : ℕ). lineLength ks * i) both ∙ mul-add (lineLength ks) (length line) (length later) in
         omega (arith, h .room, split, ap (λ (o : Outgoing). o .bytes) (output-still ks cs s ∙ half-outgoing))
 
     next : After (suc m) n (whole ks cs s)

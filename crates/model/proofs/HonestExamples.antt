@@ -7,7 +7,8 @@ use native.Mathlib.{Omega.arith, Nat.add-zero}
 use Rattle.model.specs.{Step.numberOf, Line.Sent, Line.bytesOf, Examples.lentByRunsheet}
 use Rattle.model.specs.Plain.{PlainJob, filled, nextFields, calling, callNow, stepAlone, plainAt, callAtStep, entriesAtStep}
 use Rattle.model.specs.Honest.{pairs, dummyAt, dummied, onReal, onDummies, Honest, linesFrom}
-use Rattle.model.specs.HonestExamples.{jobOf, stepsFrom, Compared, sheetHonest, callsHonest, linesHonest, HonestExample, sheetEither, EitherKind, sheetOrder, OrderOnly, sheetSends, SendsOnly, sheetOpen, CallsOnly}
+use Rattle.model.specs.HonestExamples.{jobOf, stepsFrom, Compared, sheetHonest, callsHonest, linesHonest, HonestExample, sheetEither, EitherKind, sheetOrder}
+use Rattle.model.specs.HonestExamples.{OrderOnly, sheetSends, SendsOnly, sheetOpen, CallsOnly}
 use Rattle.model.specs.Data.{Entry, Absent, Number, Key, Open, Secret, Call, Neither, Receives, Sends}
 use Rattle.model.proofs.{Examples.opened, Honest.honest-loses-nothing}
 

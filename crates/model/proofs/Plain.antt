@@ -1,7 +1,7 @@
 -- The laws of a plain run: of one step, and of every step.
 use Prim.Native.Nat.{ℕ, zero, suc, _+_}
 use mathlib.Core.Path.{_≡_, refl, sym, _∙_, ap, ap₂}
-use mathlib.Core.Bool.{Bool, true, false}
+use mathlib.Core.Bool.{Bool, true, false, cond}
 use mathlib.Core.List.{List, [], _∷_}
 use lib.{Dec.leb, ListN.length, ListN.getD, ListN.drop, ListN.length-set, ListN.length-replicate}
 use native.Mathlib.Nat.{add-zero}
@@ -38,26 +38,35 @@ module _ (n : ℕ) (cs : List Command) (a : Alone) where
   unfolding callNow
   now-going e = rw e
 
+  -- what it is once it has moved on
+  abbrev pub moved : Alone
+  moved = record { process = step (length cs) (command cs (a .process)) (called n cs a .process); rest = called n cs a .rest }
+
+  -- a fact of its next step: of itself, if it has stopped, and else of that
+  pub by-step : (P : Alone → Type 0) → (stopped cs (a .process) ≡ true → P a) → (stopped cs (a .process) ≡ false → P moved) → P (stepAlone n cs a)
+  unfolding stepAlone
+  by-step P rests goes = go (stopped cs (a .process)) refl
+    where
+      go : (b : Bool) → stopped cs (a .process) ≡ b → P (cond b a moved)
+      go true e = rests e
+      go false e = goes e
+
   pub step-stopped : stopped cs (a .process) ≡ true → stepAlone n cs a ≡ a
   unfolding stepAlone
   step-stopped e = rw e
 
-  pub step-going : stopped cs (a .process) ≡ false
-      → stepAlone n cs a ≡ record { process = step (length cs) (command cs (a .process)) (called n cs a .process); rest = called n cs a .rest }
+  pub step-going : stopped cs (a .process) ≡ false → stepAlone n cs a ≡ moved
   unfolding stepAlone
   step-going e = rw e
 
   -- it counts the call that it makes
   pub step-counts : stepAlone n cs a .process .execution .calls ≡ a .process .execution .calls + callsBy (callNow cs a)
   unfolding calls
-  step-counts = go (stopped cs (a .process)) refl
-    where
-      go : (b : Bool) → stopped cs (a .process) ≡ b → stepAlone n cs a .process .execution .calls ≡ a .process .execution .calls + callsBy (callNow cs a)
-      go true e = ap (λ (x : Alone). x .process .execution .calls) (step-stopped e) ∙ sym (add-zero _) ∙ ap (λ (k : Call). a .process .execution .calls + callsBy k) (sym (now-stopped e))
-      go false e =
-          ap (λ (x : Alone). x .process .execution .calls) (step-going e)
-          ∙ calls .stepped (length cs) (command cs (a .process)) (called n cs a .process)
-          ∙ ap₂ (λ (x : Execution) (k : Call). x .calls + callsBy k) (calling-execution (callNow cs a) n a) (sym (now-going e))
+  step-counts =
+      by-step (λ b. b .process .execution .calls ≡ a .process .execution .calls + callsBy (callNow cs a))
+      (λ e. sym (add-zero _) ∙ ap (λ (k : Call). a .process .execution .calls + callsBy k) (sym (now-stopped e)))
+      (λ e. calls .stepped (length cs) (command cs (a .process)) (called n cs a .process)
+      ∙ ap₂ (λ (x : Execution) (k : Call). x .calls + callsBy k) (calling-execution (callNow cs a) n a) (sym (now-going e)))
 
 -- ---- It has as many fields as there are keys
 
@@ -79,14 +88,10 @@ calling-length Sends n a h = h
 
 step-length : (n : ℕ) (cs : List Command) (a : Alone) → length (a .process .fields) ≡ n → length (stepAlone n cs a .process .fields) ≡ n
 unfolding step
-step-length n cs a h = go (stopped cs (a .process)) refl
-  where
-    go : (b : Bool) → stopped cs (a .process) ≡ b → length (stepAlone n cs a .process .fields) ≡ n
-    go true e = ap (λ (x : Alone). length (x .process .fields)) (step-stopped n cs a e) ∙ h
-    go false e =
-        ap (λ (x : Alone). length (x .process .fields)) (step-going n cs a e)
-        ∙ length-set (called n cs a .process .fields) (command cs (a .process) .k) _
-        ∙ calling-length (callNow cs a) n a h
+step-length n cs a h =
+    by-step n cs a (λ b. length (b .process .fields) ≡ n)
+    (λ e. h)
+    (λ e. length-set (called n cs a .process .fields) (command cs (a .process) .k) _ ∙ calling-length (callNow cs a) n a h)
 
 pub plain-length : (j : PlainJob) (s : ℕ) → length (plainAt j s .process .fields) ≡ j .keys
 unfolding plainAt fresh

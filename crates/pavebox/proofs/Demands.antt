@@ -4,18 +4,22 @@ use mathlib.Core.Path.{_≡_, refl, sym, ap, _∙_}
 use mathlib.Core.List.{List, []}
 use native.Mathlib.Omega.{arith}
 use lib.ListN.{length, getD, take, drop}
-use Rattle.model.specs.{Answer.After, Answer.Left, Answer.numbersOf, Answer.bytesFor, Answer.bytesWritten, Answer.allLe32, Answer.answeredBy, Answer.leftBy, Answer.numberCount, Answer.runSheet, Answer.entered, Answer.runEntry, Answer.le32}
-use Rattle.model.specs.{Job.Job, Placed.front, Line.bytesOf, Line.memoryAfter, Sheet.Reading, Sheet.accepted, Sheet.readSheet, Run.runJob, Secrecy.Indistinguishable, Witness.sheet2}
+use Rattle.model.specs.{Answer.After, Answer.Left, Answer.numbersOf, Answer.bytesFor, Answer.bytesWritten, Answer.allLe32, Answer.answeredBy, Answer.leftBy}
+use Rattle.model.specs.{Answer.numberCount, Answer.runSheet, Answer.entered, Answer.runEntry, Answer.le32}
+use Rattle.model.specs.{Job.Job, Placed.front, Line.bytesOf, Line.memoryAfter, Sheet.Reading, Sheet.accepted, Sheet.readSheet, Run.runJob, Secrecy.Indistinguishable}
+use Rattle.model.specs.{Witness.sheet2}
 use Rattle.model.specs.{Witness.sheet3, Witness.job2, Witness.job3, Witness.lent}
 use Rattle.model.specs.Sheet as Sheet
 use Rattle.model.specs.HonestExamples.{jobOf, sheetHonest}
 use Rattle.model.specs.declared.Level.the-variants.{High}
 use Rattle.model.specs.declared.Answer.{Answer}
 use Rattle.model.specs.declared.Answer.the-variants.{Ended, Refused}
-use Rattle.model.proofs.{Placed.front-length, Counted.counts-of, Examples.opened, Secrecy.secrecy, Witness.telling as witness, Honest.honest-sheet-loses-nothing, HonestExamples.computed, HonestExamples.honest-example}
+use Rattle.model.proofs.{Placed.front-length, Counted.counts-of, Examples.opened, Secrecy.secrecy, Witness.telling as witness, Honest.honest-sheet-loses-nothing}
+use Rattle.model.proofs.{HonestExamples.computed, HonestExamples.honest-example}
 use Rattle.whole_sheet.proofs.Laws.{accepted-left, refused-left}
 use Rattle.pavebox.proofs.Laws.{entered-sized}
-use Rattle.pavebox.specs.Demands.{Called, Demand2, Demand1Holds, Demand2Holds, SeventhHolds, HonestHolds, Demand3Holds, answerLent, CalledOn, Telling, lentHonest, HonestTelling}
+use Rattle.pavebox.specs.Demands.{Called, Demand2, Demand1Holds, Demand2Holds, SeventhHolds, HonestHolds, Demand3Holds, answerLent, CalledOn, Telling, lentHonest}
+use Rattle.pavebox.specs.Demands.{HonestTelling}
 
 -- ---- What a run sends fits the memory that is lent to it
 

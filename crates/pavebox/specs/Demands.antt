@@ -4,7 +4,8 @@ use mathlib.Core.Path.{_≡_}
 use mathlib.Core.Logic.{_≢_}
 use mathlib.Core.List.{List, [], _∷_, _++_}
 use lib.ListN.{length, getD, take, drop, replicate}
-use Rattle.model.specs.{Answer.After, Answer.numbersOf, Answer.le32, Answer.allLe32, Answer.bytesFor, Answer.answerBytes, Answer.runSheet, Answer.runEntry, Job.Job, Line.bytesOf, Sheet.accepted}
+use Rattle.model.specs.{Answer.After, Answer.numbersOf, Answer.le32, Answer.allLe32, Answer.bytesFor, Answer.answerBytes, Answer.runSheet, Answer.runEntry, Job.Job}
+use Rattle.model.specs.{Line.bytesOf, Sheet.accepted}
 use Rattle.model.specs.{Sheet.readSheet, Run.runJob, Secrecy.Alike, Secrecy.Hidden, Witness.sheet2, Witness.sheet3, Witness.otherSheet, Witness.job2, Witness.job3}
 use Rattle.model.specs.{Run.lowTurnsOf, Clamped.clampedIn, Witness.lent, Text.bytes, Honest.pairs, Honest.Honest, Honest.plainLines, Honest.HoldsLines}
 use Rattle.model.specs.HonestExamples.{jobOf, sheetHonest, linesHonest}
