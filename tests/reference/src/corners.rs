@@ -4,11 +4,13 @@
 
 pub mod calls;
 pub mod clamps;
+pub mod honest;
 pub mod log;
 
 use crate::model::{end_line, LENT};
 use calls::{CALLS, LONG_CALLS};
 use clamps::{CLAMPS, ENDS, LONG_CLAMPS, REFUSED_CLAMPS};
+use honest::{HONEST, LONG_HONEST, LUCKY, SHORT, SPOILT};
 
 /// A sheet, the bytes lent to it, and what `runsheet` would print with that many bytes lent.
 #[derive(Debug, Clone, PartialEq, Eq)]
@@ -21,8 +23,8 @@ pub struct Corner {
 /// Every corner of the tables below, in their order.
 pub fn corners() -> Vec<Corner> {
     let mut corners = Vec::new();
-    for &(lent, sheet, printed) in EXAMPLES.iter().chain(RUNS).chain(CALLS).chain(CLAMPS) {
-        corners.push(corner(lent, sheet.as_bytes(), printed.as_bytes()));
+    for run in EXAMPLES.iter().chain(RUNS).chain(CALLS).chain(CLAMPS) {
+        corners.push(corner_of(run));
     }
     for &(v, word, w, result, clamped) in ARITHMETIC.iter().chain(ENDS) {
         let sheet = arithmetic_sheet(v, word, w);
@@ -36,14 +38,29 @@ pub fn corners() -> Vec<Corner> {
         let sheet = format!("sheet=1\nkeys=2\n{body}");
         corners.push(refused(number, line, sheet.as_bytes()));
     }
-    for &(pieces, printed) in LONG.iter().chain(LONG_CALLS).chain(LONG_CLAMPS) {
-        let sheet: Vec<u8> = pieces
-            .iter()
-            .flat_map(|(text, count)| text.repeat(*count))
-            .collect();
-        corners.push(corner(LENT, &sheet, printed.as_bytes()));
+    for long in LONG.iter().chain(LONG_CALLS).chain(LONG_CLAMPS) {
+        corners.push(long_corner(long));
     }
+    corners.extend(honest_corners());
     corners
+}
+
+/// The corners of Note 4: what the monitor prints for honest programs and for others.
+pub fn honest_corners() -> Vec<Corner> {
+    let spoilt = SPOILT.iter().chain(SHORT).map(|(run, _)| run);
+    let runs = HONEST.iter().chain(spoilt).chain([&LUCKY]);
+    let long = LONG_HONEST.iter().map(long_corner);
+    runs.map(corner_of).chain(long).collect()
+}
+
+pub fn corner_of(&(lent, sheet, printed): &Run) -> Corner {
+    corner(lent, sheet.as_bytes(), printed.as_bytes())
+}
+
+pub fn long_corner(&(pieces, printed): &Long) -> Corner {
+    let pieces = pieces.iter().map(|(text, count)| text.repeat(*count));
+    let sheet: Vec<u8> = pieces.flatten().collect();
+    corner(LENT, &sheet, printed.as_bytes())
 }
 
 fn corner(lent: usize, sheet: &[u8], printed: &[u8]) -> Corner {

@@ -4,6 +4,7 @@
 //! then written out by [`sheet_of`]; damaged ones begin as accepted ones.
 
 mod damage;
+pub mod honest;
 pub mod log;
 mod programs;
 

@@ -7,16 +7,19 @@
 //!
 //! - [`model`] reads a sheet and runs it, in the order of the document's text.
 //! - [`log`] makes `msg` lines out of the export of a belt log.
+//! - [`plain`] runs one execution alone, and says which programs are honest, for Note 4.
 //! - [`generate`] makes random sheets from a seed: accepted, damaged, noisy, and pairs that differ
-//!   only in their secrets. [`generate::log`] makes random exports.
+//!   only in their secrets. [`generate::log`] makes random exports, [`generate::honest`] jobs whose
+//!   programs are often honest.
 //! - [`corners`] lists hand-written sheets with the text that the documents demand for each, those
-//!   of Note 2 in [`corners::calls`], those of Note 3 in [`corners::clamps`]; [`corners::log`] has
-//!   exports with their lines.
+//!   of Note 2 in [`corners::calls`], those of Note 3 in [`corners::clamps`], those of Note 4 in
+//!   [`corners::honest`]; [`corners::log`] has exports with their lines.
 
 pub mod corners;
 pub mod generate;
 pub mod log;
 pub mod model;
+pub mod plain;
 
 pub use model::{
     c_entry, in_secret_column, printed, read, run_sheet, Command, Job, Level, Refusal,

@@ -571,13 +571,13 @@ fn quotient(v: i32, w: i32) -> Outcome {
 /// "Each execution has its place and eight variables, all 0 at first." Each counts its own clamped
 /// results too, for Note 3.
 #[derive(Clone, Copy)]
-struct Execution {
-    place: usize,
+pub(crate) struct Execution {
+    pub(crate) place: usize,
     variables: [i32; VARIABLES],
     clamped: usize,
 }
 
-const FIRST: Execution = Execution {
+pub(crate) const FIRST: Execution = Execution {
     place: 0,
     variables: [0; VARIABLES],
     clamped: 0,
@@ -591,7 +591,7 @@ struct Message {
 
 /// One step of one execution. `fields` are its own: "The low execution reads and changes only low
 /// fields, the high one only high fields." Of a call, only the moving on is here.
-fn step(
+pub(crate) fn step(
     mut execution: Execution,
     command: Command,
     fields: &mut [Option<i32>],
@@ -758,7 +758,7 @@ impl<'a> Run<'a> {
 
     /// "`send` writes one line ... The message is unchanged by it."
     fn send(&mut self) {
-        let line = sent_line(self.job, self.positions, &self.message);
+        let line = sent_line(self.positions, &sent_fields(self.job, &self.message));
         let end = self.written + line.len();
         self.output[self.written..end].copy_from_slice(line.as_bytes());
         self.written = end;
@@ -816,16 +816,20 @@ impl<'a> Run<'a> {
     }
 }
 
+/// "open keys from the low fields, secret keys from the high fields".
+fn sent_fields(job: &Job, message: &Message) -> Vec<Option<i32>> {
+    let field = |key: usize| match job.secrets[key] {
+        None => message.low[key],
+        Some(_) => message.high[key],
+    };
+    (0..job.keys).map(field).collect()
+}
+
 /// "A sent line is `sent=`, the position in four digits, then for each key a space and 11
 /// characters ... A line feed ends it."
-fn sent_line(job: &Job, position: usize, message: &Message) -> String {
+pub(crate) fn sent_line(position: usize, fields: &[Option<i32>]) -> String {
     let mut line = format!("sent={position:04}");
-    for key in 0..job.keys {
-        // "open keys from the low fields, secret keys from the high fields".
-        let field = match job.secrets[key] {
-            None => message.low[key],
-            Some(_) => message.high[key],
-        };
+    for &field in fields {
         line.push(' ');
         line.push_str(&column(field));
     }

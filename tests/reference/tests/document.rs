@@ -3,7 +3,7 @@
 use reference::corners::calls::{CALLS, LONG_CALLS};
 use reference::corners::clamps::{CLAMPS, ENDS, LONG_CLAMPS, REFUSED_CLAMPS};
 use reference::corners::{
-    corners, Corner, ARITHMETIC, EXAMPLES, LONG, REFUSED, REFUSED_BODIES, RUNS,
+    corners, honest_corners, Corner, ARITHMETIC, EXAMPLES, LONG, REFUSED, REFUSED_BODIES, RUNS,
 };
 use reference::generate::{
     accepted, accepted_job, damaged, memory_length, noise, secret_pair, sheet_of, Rng, Shape,
@@ -66,7 +66,8 @@ fn every_corner_prints_what_the_document_says() {
     let arithmetic = ARITHMETIC.len() + ENDS.len();
     let refused = REFUSED.len() + REFUSED_CLAMPS.len() + REFUSED_BODIES.len();
     let long = LONG.len() + LONG_CALLS.len() + LONG_CLAMPS.len();
-    assert_eq!(corners.len(), runs + arithmetic + refused + long);
+    let honest = honest_corners().len();
+    assert_eq!(corners.len(), runs + arithmetic + refused + long + honest);
     corners.iter().for_each(check);
 }
 
