@@ -56,6 +56,11 @@ impl Case {
         self.input.bytes()
     }
 
+    /// The output memory before the call.
+    pub fn output(&self) -> &[u8] {
+        self.output.bytes()
+    }
+
     pub fn differs(&self, message: String) -> Difference {
         Difference {
             message,
@@ -122,6 +127,12 @@ impl fmt::Display for Difference {
 /// Calls both and compares all that they leave.
 pub fn compare(case: &Case) -> Result<Left, Difference> {
     let left = call_archive(case)?;
+    compare_with_model(case, &left)?;
+    Ok(left)
+}
+
+/// Calls the model, and compares all that it leaves with what the archive has left.
+pub fn compare_with_model(case: &Case, left: &Left) -> Result<(), Difference> {
     let (mut output, mut answer) = (case.output.clone(), case.answer.clone());
     let returned = (case.entry.model)(case.input(), output.bytes_mut(), answer.bytes_mut());
     if left.returned != returned {
@@ -134,16 +145,26 @@ pub fn compare(case: &Case) -> Result<Left, Difference> {
             "the archive answers {found:?}, the model {wanted:?}"
         )));
     }
-    match first_difference(left.output(), output.bytes()) {
-        None => Ok(left),
+    compare_output(case, left, output.bytes(), "the model's")
+}
+
+/// Compares the output memory, byte for byte, with the one that is wanted, and says whose that is.
+pub fn compare_output(
+    case: &Case,
+    left: &Left,
+    wanted: &[u8],
+    whose: &str,
+) -> Result<(), Difference> {
+    match first_difference(left.output(), wanted) {
+        None => Ok(()),
         Some((place, found, wanted)) => Err(case.differs(format!(
-            "byte {place} of the output memory is {found}, of the model's {wanted}"
+            "byte {place} of the output memory is {found}, of {whose} {wanted}"
         ))),
     }
 }
 
 /// Calls the archive, and checks all that needs no model: the guards, and the bytes that it reads.
-fn call_archive(case: &Case) -> Result<Left, Difference> {
+pub fn call_archive(case: &Case) -> Result<Left, Difference> {
     let input = case.input.clone();
     let (mut output, mut answer) = (case.output.clone(), case.answer.clone());
     let returned = (case.entry.archive)(input.bytes(), output.bytes_mut(), answer.bytes_mut());

@@ -1,12 +1,13 @@
 //! `differential [PART] [COUNT [SEED]]` compares the archive with the reference model.
 //!
-//! PART is `sheets`, which are run, or `logs`, exports whose lines are made; without it, each of
-//! them in turn. First come the hand-written corners, then COUNT random cases (20,000 by default).
+//! PART is `sheets`, which are run, `honest`, sheets whose runs are held to plain runs too, or `logs`,
+//! exports whose lines are made; without it, each of them in turn. First come the hand-written corners, then COUNT random cases (20,000 by default).
 //! SEED is taken from the clock by default, and is always printed. Of each call every byte of the
 //! three memories is compared, and the bytes around them. Exit status 1: a difference, or random
 //! cases that show too little, as fewer than some thousand may.
 
 mod compare;
+mod honest;
 mod lent;
 mod logs;
 mod pairs;
@@ -18,7 +19,7 @@ use part::Part;
 use std::process::ExitCode;
 use std::time::{SystemTime, UNIX_EPOCH};
 
-static PARTS: [&Part; 2] = [&sheets::SHEETS, &logs::LOGS];
+static PARTS: [&Part; 3] = [&sheets::SHEETS, &honest::HONEST, &logs::LOGS];
 const DEFAULT_COUNT: u64 = 20_000;
 
 fn main() -> ExitCode {
@@ -26,7 +27,7 @@ fn main() -> ExitCode {
     let words: Vec<&str> = words.iter().map(String::as_str).collect();
     let (parts, words) = chosen(&words);
     let Some((count, seed)) = arguments(words) else {
-        eprintln!("usage: differential [sheets|logs] [COUNT [SEED]]");
+        eprintln!("usage: differential [sheets|honest|logs] [COUNT [SEED]]");
         return ExitCode::from(2);
     };
     for part in parts {
@@ -119,8 +120,9 @@ mod tests {
         for (words, parts, rest) in [
             (&["logs", "7"][..], &["logs"][..], &["7"][..]),
             (&["sheets"], &["sheets"], &[]),
-            (&["7", "8"], &["sheets", "logs"], &["7", "8"]),
-            (&[], &["sheets", "logs"], &[]),
+            (&["honest", "7", "8"], &["honest"], &["7", "8"]),
+            (&["7", "8"], &["sheets", "honest", "logs"], &["7", "8"]),
+            (&[], &["sheets", "honest", "logs"], &[]),
         ] {
             let (found, behind) = chosen(words);
             assert_eq!((names(found).as_slice(), behind), (parts, rest));

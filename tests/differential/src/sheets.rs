@@ -12,13 +12,9 @@ use reference::read;
 
 pub static SHEETS: Part = Part {
     name: "sheets",
-    entry: Entry {
-        archive: pavebox::entry,
-        model: reference::c_entry,
-        input: "sheet",
-    },
+    entry: RUN,
     answer_bytes: ANSWER_BYTES,
-    wrong_lengths: &[0, 1, 4, 8, 20, 24, 26, 27, 29, 30, 32, 56],
+    wrong_lengths: WRONG_LENGTHS,
     memory_length,
     corners,
     text: printed,
@@ -38,6 +34,15 @@ pub static SHEETS: Part = Part {
         ],
     },
 };
+
+pub const RUN: Entry = Entry {
+    archive: pavebox::entry,
+    model: reference::c_entry,
+    input: "sheet",
+};
+
+/// Lengths of an answer memory that are refused.
+pub const WRONG_LENGTHS: &[usize] = &[0, 1, 4, 8, 20, 24, 26, 27, 29, 30, 32, 56];
 
 /// About two in five do; pairs whose columns are equal could not tell a monitor that mixes up the two
 /// executions.
@@ -97,12 +102,15 @@ const PAIR_EVERY: u64 = 4;
 
 fn corners() -> Vec<Corner> {
     let corners = reference::corners::corners();
-    let corner = |corner: reference::corners::Corner| Corner {
+    corners.into_iter().map(corner).collect()
+}
+
+pub fn corner(corner: reference::corners::Corner) -> Corner {
+    Corner {
         lent: corner.lent,
         input: corner.sheet,
         text: corner.printed,
-    };
-    corners.into_iter().map(corner).collect()
+    }
 }
 
 /// The seven numbers, if the answer memory has them.
@@ -112,7 +120,7 @@ pub fn numbers(left: &Left) -> Option<[u32; NUMBERS]> {
 }
 
 /// What `runsheet` would print.
-fn printed(left: &Left) -> Vec<u8> {
+pub fn printed(left: &Left) -> Vec<u8> {
     let numbers = numbers(left).unwrap_or([0; NUMBERS]);
     [left.lines(numbers[4]), &end_line(numbers)].concat()
 }
