@@ -1,10 +1,11 @@
 //! `differential [PART] [COUNT [SEED]]` compares the archive with the reference model.
 //!
 //! PART is `sheets`, which are run, `honest`, sheets whose runs are held to plain runs too, or `logs`,
-//! exports whose lines are made; without it, each of them in turn. First come the hand-written corners, then COUNT random cases (20,000 by default).
-//! SEED is taken from the clock by default, and is always printed. Of each call every byte of the
-//! three memories is compared, and the bytes around them. Exit status 1: a difference, or random
-//! cases that show too little, as fewer than some thousand may.
+//! exports whose lines are made; without it, each of them in turn. First come the hand-written
+//! corners, then COUNT random cases (20,000 by default). SEED is taken from the clock by default, and
+//! is always printed. Of each call every byte of the three memories is compared, and the bytes around
+//! them. Exit status 1: a difference, or random cases that show too little, as fewer than some
+//! thousand may.
 
 mod compare;
 mod honest;
