@@ -30,7 +30,7 @@ agree Sends Receives n d = absurd (d refl)
 agree Sends Sends n d = (n, refl)
 
 -- one of its kind lets it go
-pub alike : (k : Call) → waits k k ≡ false
+alike : (k : Call) → waits k k ≡ false
 unfolding waits
 alike Neither = refl
 alike Receives = refl

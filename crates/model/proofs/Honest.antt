@@ -251,7 +251,7 @@ module _ (j : Job) (N lent : ℕ) (honest : Honest j N) where
   dummies = onDummies j
 
   -- both plain runs have made as many calls
-  as-many : (m : ℕ) → m ≤ N → plainAt real m .process .execution .calls ≡ plainAt dummies m .process .execution .calls
+  as-many : (m : ℕ) → m < N → plainAt real m .process .execution .calls ≡ plainAt dummies m .process .execution .calls
   unfolding plainAt callAtStep
   as-many zero h = refl
   as-many (suc m) h =
@@ -402,7 +402,7 @@ module _ (j : Job) (N lent : ℕ) (honest : Honest j N) where
   sending (suc n) m s e h = from-pair n m s e h (sending n (suc m) (whole ks cs s) (omega arith)) (stopped cs (process Low s)) refl
 
   at-first : HoldsLines j N lent → After 0 N (initial ks (j .messages))
-  unfolding plainAt initial fresh at lineLength calls
+  unfolding plainAt initial fresh at calls
   at-first room = record { high = refl; low = refl; kinds = refl; positions = refl; room = omega (arith, room) }
 
 pub honest-loses-nothing : HonestLosesNothing

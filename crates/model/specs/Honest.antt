@@ -1,9 +1,10 @@
 -- Document 02, Note 4, "Honest programs lose nothing": what it compares, and what is claimed of the paired model.
-use Prim.Native.Nat.{ℕ, zero, suc, _+_, _*_, _<_, _≤_}
+use Prim.Native.Nat.{ℕ, zero, suc, _*_, _<_, _≤_}
 use mathlib.Core.Path.{_≡_}
 use mathlib.Core.List.{List, [], _∷_, _++_, map}
 use lib.ListN.{length, getD, drop}
-use Rattle.model.specs.{Job.Job, Sheet.accepted, Sheet.readSheet, Line.Sent, Line.bytesOf, Run.runJob, Answer.Left, Answer.numbersOf, Answer.bytesWritten, Answer.runSheet}
+use Rattle.model.specs.{Job.Job, Sheet.accepted, Sheet.readSheet, Line.Sent, Line.lineLength, Line.bytesOf, Run.runJob}
+use Rattle.model.specs.{Answer.Left, Answer.numbersOf, Answer.bytesWritten, Answer.runSheet}
 use Rattle.model.specs.Plain.{PlainJob, callAtStep, entriesAtStep}
 use Rattle.model.specs.Data.{Entry, Absent, Number, Key, Open, Secret, Call, Neither, Receives, Sends, Level, Low, High}
 
@@ -63,7 +64,7 @@ plainLines j N = linesFrom (onReal j) 0 N
 
 -- "and the lent memory holds all the lines", each of 10 + 12 × K bytes
 abbrev pub HoldsLines : Job → ℕ → ℕ → Type 0
-HoldsLines j N lent = (10 + 12 * length (j .keys)) * length (plainLines j N) ≤ lent
+HoldsLines j N lent = lineLength (j .keys) * length (plainLines j N) ≤ lent
 
 -- Of every job, whatever its keys, commands, messages and dummies, and every N, so that those from 1 to 512 are among them: the lines of the paired run are
 -- those lines. (How it ends is no part of the claim.)

@@ -1,4 +1,4 @@
--- Note 4 speaks of something: a program that is honest though its lines hold secrets, and one for each part of the hypothesis that fails only there and is spoiled.
+-- Note 4 speaks of something: a program that is honest though its lines hold secrets, and one for each part of the hypothesis that fails there alone and is spoilt.
 use Prim.Native.Nat.{ℕ, zero, suc}
 use Prim.Native.String.{String}
 use mathlib.Core.Path.{_≡_}
@@ -58,12 +58,15 @@ abbrev pub linesHonest : String
 linesHonest = "sent=0008 +0000000001 +0000000010\nsent=0020 +0000000002 +0000000000\n"
 
 -- The hypothesis holds, and the conclusion: the lines are the same. What it sends at steps 4 and 10 differs in the secret entry from what it sends on the dummies.
+-- Its two lines of 34 bytes need 68: these hold all the lines, and with one fewer the second is not sent.
 pub record HonestExample : Type 0 where
   pub compared : Compared sheetHonest 12 callsHonest callsHonest linesHonest linesHonest
   pub honest : Honest (jobOf sheetHonest) 12
   pub same : runJob (jobOf sheetHonest) lentByRunsheet .lines ≡ plainLines (jobOf sheetHonest) 12
   pub first : getD (entriesAtStep (onReal (jobOf sheetHonest)) 4) 1 Absent ≢ getD (entriesAtStep (onDummies (jobOf sheetHonest)) 4) 1 Absent
   pub second : getD (entriesAtStep (onReal (jobOf sheetHonest)) 10) 1 Absent ≢ getD (entriesAtStep (onDummies (jobOf sheetHonest)) 10) 1 Absent
+  pub enough : HoldsLines (jobOf sheetHonest) 12 68
+  pub short : runJob (jobOf sheetHonest) 67 .lines ≢ plainLines (jobOf sheetHonest) 12
 
 -- ---- For each weaker hypothesis, a program that it would call honest
 
@@ -84,6 +87,10 @@ abbrev pub OrderOnly : Type 0
 OrderOnly =
     Counterexample sheetOrder 5 (Receives ∷ Neither ∷ Neither ∷ Sends ∷ Neither ∷ []) (Receives ∷ Neither ∷ Neither ∷ Neither ∷ Sends ∷ [])
     "sent=0008 ........... ...........\n" "sent=0006 ........... ...........\n"
+
+-- Only steps below N count: in its first three steps this program is honest.
+abbrev pub OrderBefore : Type 0
+OrderBefore = Honest (jobOf sheetOrder) 3
 
 -- "receive and send": here both send at the same steps, and a receive before that is one run's alone.
 unfoldable pub sheetSends : List ℕ

@@ -1,5 +1,6 @@
 -- Document 02, Note 4: "Call it a plain run when one execution works alone, with one field to a key and the real messages; once stopped it does nothing more."
--- What a command makes of an execution and its fields is document 01's, as in the paired model; of levels, turns and dummies nothing is here.
+-- What a command makes of an execution and its fields is document 01's, as in the paired model; of levels, turns and dummies nothing is here. (The record of an
+-- execution counts its calls and its clamped results, at which a plain run does not look.)
 use Prim.Native.Nat.{ℕ, zero, suc}
 use mathlib.Core.Bool.{cond}
 use mathlib.Core.List.{List, [], _∷_}
@@ -63,6 +64,6 @@ plainAt j (suc s) = stepAlone (j .keys) (j .commands) (plainAt j s)
 unfoldable pub callAtStep : PlainJob → ℕ → Call
 callAtStep j s = callNow (j .commands) (plainAt j s)
 
--- and the entries that it receives or sends there
+-- and the entries that it receives or sends there; at any other step, those that it has
 unfoldable pub entriesAtStep : PlainJob → ℕ → List Entry
 entriesAtStep j s = called (j .keys) (j .commands) (plainAt j s) .process .fields

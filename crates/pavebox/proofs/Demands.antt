@@ -18,7 +18,7 @@ use Rattle.model.proofs.{Placed.front-length, Counted.counts-of, Examples.opene
 use Rattle.model.proofs.{HonestExamples.computed, HonestExamples.honest-example}
 use Rattle.whole_sheet.proofs.Laws.{accepted-left, refused-left}
 use Rattle.pavebox.proofs.Laws.{entered-sized}
-use Rattle.pavebox.specs.Demands.{Called, Demand2, Demand1Holds, Demand2Holds, SeventhHolds, HonestHolds, Demand3Holds, answerLent, CalledOn, Telling, lentHonest}
+use Rattle.pavebox.specs.Demands.{Called, Demand2, Demand1Holds, Demand2Holds, SeventhHolds, HonestSendsHolds, Demand3Holds, answerLent, CalledOn, Telling, lentHonest}
 use Rattle.pavebox.specs.Demands.{HonestTelling}
 
 -- ---- What a run sends fits the memory that is lent to it
@@ -82,9 +82,9 @@ demand-3 s t j k o a₁ a₂ r₁ r₂ o₁ o₂ b₁ b₂ es et h c₁ c₂ =
       byte = λ p clear. ap (λ (m : List ℕ). getD m p 0) (d₁ .memory ∙ ap (λ (z : Left). z .memory) x) ∙ i .byte p clear ∙ sym (ap (λ (m : List ℕ). getD m p 0) (d₂ .memory ∙ ap (λ (z : Left). z .memory) y));
     }
 
-pub loses-nothing : HonestHolds
+pub honest-sends : HonestSendsHolds
 unfolding numbersOf allLe32 le32
-loses-nothing s o a r o′ a′ c j N read turns honest room =
+honest-sends s o a r o′ a′ c j N read turns honest room =
     let d = second c in
     let p = honest-sheet-loses-nothing s j N o read turns honest room in
     record {
@@ -137,7 +137,7 @@ honest-telling =
     record {
       called = on lentHonest sheetHonest;
       holds =
-          loses-nothing sheetHonest lentHonest answerLent _ _ _ (on lentHonest sheetHonest) (jobOf sheetHonest) 12
+          honest-sends sheetHonest lentHonest answerLent _ _ _ (on lentHonest sheetHonest) (jobOf sheetHonest) 12
           (honest-example .compared .accepts) (honest-example .compared .turns) (honest-example .honest) (omega arith);
       output = refl;
     }

@@ -48,7 +48,7 @@ pub record Seventh (sheet output answer : List ℕ) (returned : ℕ) (output′ 
 
 -- Document 02, Note 4, "Honest programs lose nothing": what the plain run of N steps on the real messages sends stands in the output memory, and behind it the old
 -- bytes; and the bytes written, the fifth number in the answer memory, are those lines'
-pub record LosesNothing (output : List ℕ) (j : Job) (N : ℕ) (output′ answer′ : List ℕ) : Type 0 where
+pub record HonestSends (output : List ℕ) (j : Job) (N : ℕ) (output′ answer′ : List ℕ) : Type 0 where
   pub lines : output′ ≡ bytesOf (plainLines j N) ++ drop (length (bytesOf (plainLines j N))) output
   pub written : take (bytesFor 1) (drop (bytesFor 4) answer′) ≡ le32 (length (bytesOf (plainLines j N)))
 
@@ -62,11 +62,11 @@ abbrev pub SeventhHolds : Type 0
 SeventhHolds = (s o a : List ℕ) (r : ℕ) (o′ a′ : List ℕ) → Called s o a r o′ a′ → Seventh s o a r o′ a′
 
 -- of an accepted sheet whose turns are N times LH, where the program is honest and the output memory holds all the lines
-abbrev pub HonestHolds : Type 0
-HonestHolds =
+abbrev pub HonestSendsHolds : Type 0
+HonestSendsHolds =
     (s o a : List ℕ) (r : ℕ) (o′ a′ : List ℕ) → Called s o a r o′ a′
     → (j : Job) (N : ℕ) → readSheet s ≡ accepted j → j .turns ≡ pairs N → Honest j N → HoldsLines j N (length o)
-    → LosesNothing o j N o′ a′
+    → HonestSends o j N o′ a′
 
 abbrev pub Demand3Holds : Type 0
 Demand3Holds =
@@ -77,7 +77,7 @@ Demand3Holds =
 
 -- ---- The demands speak of something
 
--- an answer memory of 28 bytes, and what the entry returns and leaves for a sheet on it and on an output memory, some memory if no other is named
+-- an answer memory of 28 bytes; what the entry returns and leaves for a sheet, with it and an output memory; and the same with the memory `lent`
 abbrev pub answerLent : List ℕ
 answerLent = replicate answerBytes 0
 
@@ -116,5 +116,5 @@ lentHonest = replicate 70 7
 -- Note 4's claim applies to a call with the honest program's sheet, and this is what it leaves
 pub record HonestTelling : Type 0 where
   pub called : CalledOn lentHonest sheetHonest
-  pub holds : LosesNothing lentHonest (jobOf sheetHonest) 12 (afterOn lentHonest sheetHonest .output) (afterOn lentHonest sheetHonest .answer)
+  pub holds : HonestSends lentHonest (jobOf sheetHonest) 12 (afterOn lentHonest sheetHonest .output) (afterOn lentHonest sheetHonest .answer)
   pub output : afterOn lentHonest sheetHonest .output ≡ bytes linesHonest ++ (7 ∷ 7 ∷ [])

@@ -1,7 +1,8 @@
 //! The entry that runs a sheet, on sheets whose turns are N times LH: document 02's Note 4, "Honest
-//! programs lose nothing". Where the two plain runs of a program meet the note's condition, what the
-//! archive leaves is held to the plain run on real messages, which knows nothing of two executions.
-//! Every case is compared with the paired model too.
+//! programs lose nothing". Where the two plain runs of a random program meet the note's condition, what
+//! the archive leaves is held to the plain run on real messages, which knows nothing of two executions.
+//! Every case is compared with the paired model too; the corners with it and with what is written
+//! beside them.
 
 use crate::compare::{call_archive, compare_output, compare_with_model, Case, Difference, Left};
 use crate::part::{Corner, Part};
@@ -84,20 +85,20 @@ static LACK_A_SECRET: Telling = Telling {
     one_of: 10,
 };
 
-/// About one in 55 has; the others would be honest too if both runs had to stop at the same step, for
-/// which the note does not ask.
+/// About one in 55 has; the others would be honest too if both runs had to have stopped by the last
+/// step, or neither, for which the note does not ask.
 static STOP_ALONE: Telling = Telling {
     words: "such programs have stopped in one plain run and not in the other",
     one_of: 200,
 };
 
-/// About one in seven is not; without them the condition would never be seen to shut one out.
+/// About two in 13 are not; without them the condition would never be seen to shut one out.
 static ARE_NOT_HONEST: Telling = Telling {
     words: "programs are not honest",
     one_of: 20,
 };
 
-/// About 13 in 14 do; if none did, the condition would ask for more than it needs to.
+/// About 11 in 12 do; if none did, the condition would ask for more than it needs to.
 static LOSE_SOMETHING: Telling = Telling {
     words:
         "programs that are not honest, in as much memory, send something else than the plain run",

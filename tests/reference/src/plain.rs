@@ -1,7 +1,7 @@
 //! The plain run of document 02's Note 4, and what makes a program honest.
 //!
-//! Nothing here knows of two executions, of turns or of waiting. With the paired model it shares what
-//! one command does, and how a sent line is written.
+//! The plain run knows nothing of two executions, of turns or of waiting. With the paired model it
+//! shares what one command does, and how a sent line is written.
 //!
 //! Words between quotation marks are the note's own. A comment that begins with "Reading:" names the
 //! reading taken where the text leaves a choice, or seems to leave one.
@@ -37,7 +37,7 @@ pub fn steps_of(job: &Job) -> Option<usize> {
 }
 
 /// "Call it a plain run when one execution works alone, with one field to a key". Its first steps, as
-/// many as are asked for; the turns of the job do not count.
+/// many as are asked for; the turns of the job and its secret keys do not count.
 pub fn plain_run(job: &Job, messages: &Lines, steps: usize) -> Vec<Step> {
     let end = job.commands.len();
     let mut execution = FIRST;

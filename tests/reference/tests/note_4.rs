@@ -175,7 +175,7 @@ fn the_corners_reach_both_ends_of_n() {
 
 /// The longest lines, at 503 of 512 steps, and memory that holds just these.
 #[test]
-fn as_many_lines_as_there_can_be_are_sent() {
+fn nearly_every_step_may_send() {
     let mut commands = vec![Command::Send; 63];
     commands[0] = Command::Receive;
     commands.push(Command::Jump(1));

@@ -2,8 +2,8 @@
 //! or honest but for one fault, or anything.
 //!
 //! In an honest program what is computed from secrets stays in variables and at keys of its own. A
-//! secret decides a way only where both ways are as long as each other and have no call, or where no
-//! call comes any more.
+//! secret decides a way only where both ways are as long as each other, have no call and change
+//! nothing but what may be secret, or where no call comes any more.
 
 use super::{accepted_job, maybe, message, value, Rng, Shape};
 use crate::model::{Command, Job, Level, MOST_COMMANDS, MOST_KEYS};
