@@ -31,7 +31,7 @@ unfoldable pub nextFields : ℕ → List (List Entry) → List Entry
 nextFields n [] = allAbsent n
 nextFields n (line ∷ rest) = filled n line
 
--- What a call does to its message: "`receive` takes the next message line and fills all fields"; "The message is unchanged" by a `send`.
+-- What a call does to its message: "`receive` takes the next message line and fills all fields"; of `send`, "The message is unchanged by it."
 unfoldable pub calling : Call → ℕ → Alone → Alone
 calling Neither n a = a
 calling Receives n a = record { process = refill (nextFields n (a .rest)) (a .process); rest = drop 1 (a .rest) }
