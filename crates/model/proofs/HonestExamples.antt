@@ -1,23 +1,24 @@
 -- antt computes what the two plain runs and the monitor do with each sheet.
 use Prim.Native.Nat.{ℕ, zero, suc, _+_, _<_}
 use mathlib.Core.Path.{_≡_, refl, sym, _∙_, ap}
+use mathlib.Core.Logic.{_≢_}
 use mathlib.Core.List.{List, [], _∷_, _++_}
 use lib.{IntN.ℤ, IntN.pos, ListN.length, ListN.getD, ListN.replicate, Signed.mag}
 use native.Mathlib.{Omega.arith, Nat.add-zero}
-use Rattle.model.specs.{Step.numberOf, Job.Job, Line.Sent, Line.bytesOf, Examples.lentByRunsheet}
+use Rattle.model.specs.{Text.bytes, Step.numberOf, Job.Job, Line.Sent, Line.bytesOf, Examples.lentByRunsheet}
 use Rattle.model.specs.Plain.{PlainJob, filled, nextFields, calling, callNow, stepAlone, plainAt, callAtStep, entriesAtStep}
 use Rattle.model.specs.Honest.{pairs, dummyAt, dummied, onReal, onDummies, Honest, linesFrom}
-use Rattle.model.specs.HonestExamples.{jobOf, stepsFrom, callsOf, Compared, sheetHonest, callsHonest, linesHonest, HonestExample, sheetEither, EitherKind, sheetOrder}
-use Rattle.model.specs.HonestExamples.{OrderOnly, OrderBefore, sheetSends, SendsOnly, sheetOpen, CallsOnly}
+use Rattle.model.specs.HonestExamples.{stepsFrom, callsOf, Comparison, compared, Case, job, Shown, Spoilt, callsHonest, doubles, HonestExample, eitherKind, orderOnly}
+use Rattle.model.specs.HonestExamples.{OrderBefore, sendsOnly, callsOnly, AllSpoilt}
 use Rattle.model.specs.Data.{Entry, Absent, Number, Key, Open, Secret, Call, Neither, Receives, Sends}
 use Rattle.model.proofs.{Examples.opened, Honest.honest-loses-nothing}
 
 -- opens what the plain runs go through
 unfoldable pub computed : Unit {0}
-unfolding opened filled nextFields calling callNow stepAlone plainAt callAtStep entriesAtStep pairs dummyAt dummied linesFrom stepsFrom
+unfolding opened filled nextFields calling callNow stepAlone plainAt callAtStep entriesAtStep pairs dummyAt dummied linesFrom stepsFrom compared
 computed = tt
 
--- ---- The honest program
+-- ---- Steps
 
 step-at : {A : Type 0} (f : ℕ → A) (d : A) (s n i : ℕ) → i < n → getD (stepsFrom f s n) i d ≡ f (s + i)
 unfolding stepsFrom
@@ -54,16 +55,18 @@ honest-if j N d calls opens keys c₁ c₂ o₁ o₂ =
     go (suc zero) s below isKey isOpen = absurd (omega (arith, ap secretly (ap (λ (ks : List Key). getD ks 1 Open) (sym keys) ∙ isOpen)))
     go (suc (suc k)) s below isKey isOpen = absurd (omega (arith, ap length keys))
 
-compared-honest : Compared sheetHonest 12 callsHonest callsHonest linesHonest linesHonest
-unfolding computed sheetHonest
-compared-honest = record { accepts = refl; turns = refl; room = omega arith; realCalls = refl; dummyCalls = refl; sends = refl; alone = refl }
+-- ---- The honest program
+
+shown-honest : Shown doubles
+unfolding computed
+shown-honest = record { accepts = refl; room = omega arith; compares = refl }
 
 -- its open entry is that of the first message for six steps, and then that of the second
-honest : Honest (jobOf sheetHonest) 12
-unfolding computed sheetHonest
+honest : Honest (job doubles) 12
+unfolding computed
 honest =
-    honest-if (jobOf sheetHonest) 12 (pos 300) callsHonest (replicate 6 (Number (pos 1)) ++ replicate 6 (Number (pos 2)))
-    refl (compared-honest .realCalls) (compared-honest .dummyCalls) refl refl
+    honest-if (job doubles) 12 (pos 300) callsHonest (replicate 6 (Number (pos 1)) ++ replicate 6 (Number (pos 2)))
+    refl (ap (λ (c : Comparison). c .real) (shown-honest .compares)) (ap (λ (c : Comparison). c .dummies) (shown-honest .compares)) refl refl
 
 -- the number of an entry, without its sign
 abbrev amount : Entry → ℕ
@@ -74,12 +77,12 @@ abbrev byteAt : ℕ → List Sent → ℕ
 byteAt n ls = getD (bytesOf ls) n 0
 
 pub honest-example : HonestExample
-unfolding computed sheetHonest
+unfolding computed
 honest-example =
     record {
-      compared = compared-honest;
+      shown = shown-honest;
       honest = honest;
-      same = honest-loses-nothing (jobOf sheetHonest) 12 lentByRunsheet refl honest (compared-honest .room);
+      same = honest-loses-nothing (job doubles) 12 lentByRunsheet refl honest (shown-honest .room);
       first = λ e. omega (arith, ap amount e);
       second = λ e. omega (arith, ap amount e);
       enough = omega arith;
@@ -94,42 +97,39 @@ kind Neither = 0
 kind Receives = 1
 kind Sends = 2
 
-pub either-kind : EitherKind
-unfolding computed sheetEither
-either-kind =
+-- the texts differ at a place, so the lines do
+spoilt : (c : Case) → Shown c → ¬ Honest (job c) (c .steps) → (i : ℕ) → getD (bytes (c .monitor)) i 0 ≢ getD (bytes (c .plain)) i 0 → Spoilt c
+unfolding compared
+spoilt c h dishonest i differs =
     record {
-      compared = record { accepts = refl; turns = refl; room = omega arith; realCalls = refl; dummyCalls = refl; sends = refl; alone = refl };
-      hypothesis = λ h. omega (arith, ap kind (h .calls 3 (omega arith)));
-      conclusion = λ e. omega (arith, ap (byteAt 0) e);
+      shown = h;
+      hypothesis = dishonest;
+      conclusion = λ e.
+          differs
+          (ap (λ (x : Comparison). getD (x .monitor) i 0) (sym (h .compares))
+          ∙ ap (byteAt i) e
+          ∙ ap (λ (x : Comparison). getD (x .plain) i 0) (h .compares));
     }
 
-pub order-only : OrderOnly
-unfolding computed sheetOrder
-order-only =
-    record {
-      compared = record { accepts = refl; turns = refl; room = omega arith; realCalls = refl; dummyCalls = refl; sends = refl; alone = refl };
-      hypothesis = λ h. omega (arith, ap kind (h .calls 3 (omega arith)));
-      conclusion = λ e. omega (arith, ap (byteAt 8) e);
-    }
+-- each has its step and its place
+pub all-spoilt : AllSpoilt
+unfolding computed
+all-spoilt = (
+  spoilt eitherKind (record { accepts = refl; room = omega arith; compares = refl }) (λ h. omega (arith, ap kind (h .calls 3 (omega arith)))) 0 (λ e. omega arith),
+  (
+    spoilt orderOnly (record { accepts = refl; room = omega arith; compares = refl }) (λ h. omega (arith, ap kind (h .calls 3 (omega arith)))) 8 (λ e. omega arith),
+    (
+      spoilt sendsOnly (record { accepts = refl; room = omega arith; compares = refl }) (λ h. omega (arith, ap kind (h .calls 3 (omega arith)))) 10 (λ e. omega arith),
+      (
+        spoilt callsOnly (record { accepts = refl; room = omega arith; compares = refl })
+            (λ h. omega (arith, ap amount (h .entries 3 (omega arith) refl 0 (omega arith) refl))) 20 (λ e. omega arith),
+        tt,
+      ),
+    ),
+  ),
+)
 
+-- before they differ, the calls of the second are the same
 pub order-before : OrderBefore
-unfolding computed sheetOrder
-order-before = honest-if (jobOf sheetOrder) 3 (pos 1) (Receives ∷ Neither ∷ Neither ∷ []) (replicate 3 Absent) refl refl refl refl refl
-
-pub sends-only : SendsOnly
-unfolding computed sheetSends
-sends-only =
-    record {
-      compared = record { accepts = refl; turns = refl; room = omega arith; realCalls = refl; dummyCalls = refl; sends = refl; alone = refl };
-      hypothesis = λ h. omega (arith, ap kind (h .calls 3 (omega arith)));
-      conclusion = λ e. omega (arith, ap (byteAt 10) e);
-    }
-
-pub calls-only : CallsOnly
-unfolding computed sheetOpen
-calls-only =
-    record {
-      compared = record { accepts = refl; turns = refl; room = omega arith; realCalls = refl; dummyCalls = refl; sends = refl; alone = refl };
-      hypothesis = λ h. omega (arith, ap amount (h .entries 3 (omega arith) refl 0 (omega arith) refl));
-      conclusion = λ e. omega (arith, ap (byteAt 20) e);
-    }
+unfolding computed
+order-before = honest-if (job orderOnly) 3 (pos 1) (Receives ∷ Neither ∷ Neither ∷ []) (replicate 3 Absent) refl refl refl refl refl

@@ -10,7 +10,7 @@ use Rattle.model.specs.{Job.Job, Placed.front, Line.bytesOf, Line.memoryAfter, 
 use Rattle.model.specs.{Witness.sheet2}
 use Rattle.model.specs.{Witness.sheet3, Witness.job2, Witness.job3, Witness.lent}
 use Rattle.model.specs.Sheet as Sheet
-use Rattle.model.specs.HonestExamples.{jobOf, sheetHonest}
+use Rattle.model.specs.HonestExamples.{Comparison, job, doubles}
 use Rattle.model.specs.declared.Level.the-variants.{High}
 use Rattle.model.specs.declared.Answer.{Answer}
 use Rattle.model.specs.declared.Answer.the-variants.{Ended, Refused}
@@ -132,12 +132,12 @@ telling =
     }
 
 pub honest-telling : HonestTelling
-unfolding computed entered runEntry le32 allLe32 sheetHonest
+unfolding computed entered runEntry le32 allLe32
 honest-telling =
     record {
-      called = on lentHonest sheetHonest;
+      called = on lentHonest (doubles .sheet);
       holds =
-          honest-sends sheetHonest lentHonest answerLent _ _ _ (on lentHonest sheetHonest) (jobOf sheetHonest) 12
-          (honest-example .compared .accepts) (honest-example .compared .turns) (honest-example .honest) (omega arith);
+          honest-sends (doubles .sheet) lentHonest answerLent _ _ _ (on lentHonest (doubles .sheet)) (job doubles) 12
+          (honest-example .shown .accepts) (ap (λ (c : Comparison). c .turns) (honest-example .shown .compares)) (honest-example .honest) (omega arith);
       output = refl;
     }

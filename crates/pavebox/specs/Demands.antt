@@ -8,7 +8,7 @@ use Rattle.model.specs.{Answer.After, Answer.numbersOf, Answer.le32, Answer.all
 use Rattle.model.specs.{Line.bytesOf, Sheet.accepted}
 use Rattle.model.specs.{Sheet.readSheet, Run.runJob, Secrecy.Alike, Secrecy.Hidden, Witness.sheet2, Witness.sheet3, Witness.otherSheet, Witness.job2, Witness.job3}
 use Rattle.model.specs.{Run.lowTurnsOf, Clamped.clampedIn, Witness.lent, Text.bytes, Honest.pairs, Honest.Honest, Honest.plainLines, Honest.HoldsLines}
-use Rattle.model.specs.HonestExamples.{jobOf, sheetHonest, linesHonest}
+use Rattle.model.specs.HonestExamples.{job, doubles, linesHonest}
 use Rattle.model.specs.Sheet as Sheet
 use Rattle.model.specs.declared.{Level.the-variants.High, Answer.the-variants.Refused}
 use Rattle.pavebox.specs.Entry.{Answered}
@@ -115,6 +115,6 @@ lentHonest = replicate 70 7
 
 -- Note 4's claim applies to a call with the honest program's sheet, and this is what it leaves
 pub record HonestTelling : Type 0 where
-  pub called : CalledOn lentHonest sheetHonest
-  pub holds : HonestSends lentHonest (jobOf sheetHonest) 12 (afterOn lentHonest sheetHonest .output) (afterOn lentHonest sheetHonest .answer)
-  pub output : afterOn lentHonest sheetHonest .output ≡ bytes linesHonest ++ (7 ∷ 7 ∷ [])
+  pub called : CalledOn lentHonest (doubles .sheet)
+  pub holds : HonestSends lentHonest (job doubles) 12 (afterOn lentHonest (doubles .sheet) .output) (afterOn lentHonest (doubles .sheet) .answer)
+  pub output : afterOn lentHonest (doubles .sheet) .output ≡ bytes linesHonest ++ (7 ∷ 7 ∷ [])
