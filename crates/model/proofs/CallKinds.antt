@@ -6,9 +6,10 @@ use mathlib.Core.Bool.{Bool, true, false, cond, true≢false}
 use mathlib.Core.List.{List, [], _∷_, _++_, append-nil, append-assoc}
 use lib.{ListN.length, ListN.getD, ListN.take, ListN.drop, ListN.length-append, ListN.List·getD-append, ListN.List·getD-eq-default, Seq.take-add}
 use native.Mathlib.{Omega.arith, Decide.decLt}
-use Rattle.model.specs.{Command.blank, Step.callOf, Step.kindsBy, Step.callsBy, Process.Process, State.State, State.Role, State.leads, State.follows, State.role, State.leader}
-use Rattle.model.specs.{Process.step, Process.command, Process.stopped, State.at, State.process, Verdict.kindAt, Verdict.waits, Verdict.idles, Run.share, Run.lead, Run.waitsAt, Run.unlessIdle}
-use Rattle.model.specs.{Run.followed, Run.following, Run.moved, Run.turnBy, Run.turn, Run.afterTurns, Run.lowFirst, Run.lowTurns, Run.stateAfter, Run.ended, Run.initial, Process.fresh, Run.Rule, Run.runJobBy, Run.runJob, Answer.runSheet, Examples.AllHold}
+use Rattle.model.specs.{Command.blank, Step.callOf, Step.kindsBy, Step.callsBy, Process.Process, Process.step, Process.command, Process.stopped, Process.fresh}
+use Rattle.model.specs.{State.State, State.Role, State.leads, State.follows, State.role, State.leader, State.at, State.process, Verdict.kindAt, Verdict.waits}
+use Rattle.model.specs.{Verdict.idles, Run.share, Run.lead, Run.waitsAt, Run.unlessIdle, Run.followed, Run.following, Run.moved, Run.turnBy, Run.turn, Run.afterTurns}
+use Rattle.model.specs.{Run.lowFirst, Run.lowTurns, Run.stateAfter, Run.ended, Run.initial, Run.Rule, Run.runJobBy, Run.runJob, Answer.runSheet, Examples.AllHold}
 use Rattle.model.specs.Data.{Key, Set, Command, Call, Neither, Receives, Sends, Level, High, Execution}
 use Rattle.model.specs.CallKinds.{MovesOn, AlwaysMovesOn, OtherKind, callsIn, AlwaysKept, IdlesOn, AlwaysIdles, waitsBefore, followingBefore}
 use Rattle.model.specs.CallKinds.{OnlySecretColumns, OnlySecretColumnsOfSheets, sheetWith, MakersSheet, examples}

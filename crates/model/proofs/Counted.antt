@@ -6,15 +6,13 @@ use mathlib.Core.List.{List, [], _∷_, _++_}
 use lib.ListN.{length, take, length-append}
 use borrow.Author.Tests.{ltb-false}
 use native.Mathlib.{Omega.arith, Nat.zero-add, Nat.add-zero, Nat.le-refl, Nat.mul-suc, Numerals.add-one, Numerals.one-add}
-use Rattle.model.specs.{Step.callOf, Job.Job, Process.Process, State.Processes, State.Incoming, State.State, State.fieldsOf, Process.step}
-use Rattle.model.specs.{Process.command}
-use Rattle.model.specs.{Process.stopped, Process.refill, State.Role, State.leads, State.follows, State.role, State.leader, State.at, State.put, State.takenOf}
-use Rattle.model.specs.{State.takes}
-use Rattle.model.specs.{State.sends, State.stepsBy, State.process, State.noted, Run.Outcome, Run.share, Run.lead, Run.followed, Run.following, Run.moved, Run.turnBy, Run.turn, Run.afterTurns, Run.ended}
-use Rattle.model.specs.{Run.settle, Run.runBy, Run.run, Run.initial, Process.fresh, Run.runJobBy, Run.runJob, Message.receive, Message.columns, Message.lineNow}
-use Rattle.model.specs.{Message.send, Line.lineLength}
-use Rattle.model.specs.{Verdict.short, Verdict.lacking, Verdict.noRoom, Verdict.verdictBy, Verdict.verdict, Verdict.idles, Run.waitsAt, Counted.lowsBy, Counted.lows}
-use Rattle.model.specs.{Counted.Counted, Clamped.clampedIn, Run.lowFirst, Run.lowTurns, Run.lowTurnsOf}
+use Rattle.model.specs.{Step.callOf, Job.Job, Process.Process, Process.step, Process.command, Process.stopped, Process.refill, Process.fresh, State.Processes}
+use Rattle.model.specs.{State.Incoming, State.State, State.fieldsOf, State.Role, State.leads, State.follows, State.role, State.leader, State.at, State.put}
+use Rattle.model.specs.{State.takenOf, State.takes, State.sends, State.stepsBy, State.process, State.noted, Run.Outcome, Run.share, Run.lead, Run.followed}
+use Rattle.model.specs.{Run.following, Run.moved, Run.turnBy, Run.turn, Run.afterTurns, Run.ended, Run.settle, Run.runBy, Run.run, Run.initial, Run.runJobBy, Run.runJob}
+use Rattle.model.specs.{Run.waitsAt, Run.lowFirst, Run.lowTurns, Run.lowTurnsOf, Message.receive, Message.columns, Message.lineNow, Message.send, Line.lineLength}
+use Rattle.model.specs.{Verdict.short, Verdict.lacking, Verdict.noRoom, Verdict.verdictBy, Verdict.verdict, Verdict.idles, Counted.lowsBy, Counted.lows, Counted.Counted}
+use Rattle.model.specs.{Clamped.clampedIn}
 use Rattle.model.specs.Data.{Entry, Key, Command, Call, Neither, Receives, Sends, Level, Low, High, Ending, Stopped, LettersUsed, NoRoom, Clock}
 use Rattle.model.proofs.{Accepted.every-snoc, Levels.Changed, Levels.same, Levels.other, Levels.changed, Turn.Counter, Turn.clamped, Turn.countAt, Turn.addedBy, Turn.turn-count}
 use Rattle.model.proofs.{Turn.share-execution, Turn.clock-kept, Turn.turn-clock, Line.Lined, Line.bytes-length}

@@ -5,13 +5,12 @@ use mathlib.Core.Logic.{_≢_}
 use mathlib.Core.List.{List, [], _∷_, _++_}
 use lib.{ListN.length, ListN.getD, ListN.drop, Seq.getD-drop}
 use native.Mathlib.Numerals.{one-add}
-use Rattle.model.specs.{Step.callOf, Process.Process, Line.Sent, State.Incoming, State.Outgoing, State.State, State.fieldsOf, Process.refill, Process.step}
-use Rattle.model.specs.{Process.command, State.Role, State.leads, State.follows, State.role, State.leader, State.takenOf, State.takes}
-use Rattle.model.specs.{State.sends, State.ticked, State.process, State.withProcess, State.noted, Run.Outcome, Run.share, Run.counted, Run.lead, Run.followed, Run.Rule, Run.following}
-use Rattle.model.specs.{Run.moved}
-use Rattle.model.specs.{Run.turnBy, Run.ended, Run.settle, Run.runBy, Run.initial, Message.shown, Message.source, Message.fill, Message.received, Message.receive}
-use Rattle.model.specs.{Message.columns, Message.lineNow, Message.send, Line.lineLength, Verdict.Verdict, Verdict.GoesOn, Verdict.Ends, Verdict.lacking}
-use Rattle.model.specs.{Verdict.noRoom}
+use Rattle.model.specs.{Step.callOf, Line.Sent, Line.lineLength, Process.Process, Process.refill, Process.step, Process.command, State.Incoming, State.Outgoing}
+use Rattle.model.specs.{State.State, State.fieldsOf, State.Role, State.leads, State.follows, State.role, State.leader, State.takenOf, State.takes, State.sends}
+use Rattle.model.specs.{State.ticked, State.process, State.withProcess, State.noted, Run.Outcome, Run.share, Run.counted, Run.lead, Run.followed, Run.Rule}
+use Rattle.model.specs.{Run.following, Run.moved, Run.turnBy, Run.ended, Run.settle, Run.runBy, Run.initial, Message.shown, Message.source, Message.fill}
+use Rattle.model.specs.{Message.received, Message.receive, Message.columns, Message.lineNow, Message.send, Verdict.Verdict, Verdict.GoesOn, Verdict.Ends}
+use Rattle.model.specs.{Verdict.lacking, Verdict.noRoom}
 use Rattle.model.specs.Verdict.{verdict}
 use Rattle.model.proofs.Levels.{Changed, same, other, changed, at-each}
 use Rattle.model.specs.Data.{Entry, Absent, Key, Open, Secret, Command, Call, Neither, Receives, Sends, Level, Low, High, Ending, LettersUsed, Clock}

@@ -5,11 +5,11 @@ use mathlib.Core.Bool.{Bool, true, false, cond}
 use mathlib.Core.List.{List, [], _++_, append-nil}
 use native.Mathlib.{Nat.add-zero, Nat.le-refl, Omega.arith}
 use lib.{IntN.ℤ, IntN.pos, ListN.length, ListN.getD, Seq.set-getD, Signed.quotZ}
-use Rattle.model.specs.{Step.variable, Step.calledOf, Step.made, Step.effectBy, Step.steppedBy, Step.does, Step.callOf, Step.kindsBy, Step.callsBy, Step.begun, Process.Process, State.Processes}
-use Rattle.model.specs.{Process.entry, Process.stored, Process.step, Process.command, Process.stopped, State.Role, State.leads, State.follows, State.role, State.leader}
-use Rattle.model.specs.{State.ticked, State.State}
-use Rattle.model.specs.{State.process, State.withProcess, State.noted, Process.refill, Message.received, Message.receive, Message.send, Verdict.idles, Run.waitsAt, Run.share, Run.lead, Run.followed, Run.moved}
-use Rattle.model.specs.{Run.following, Run.counted, Run.turnBy, Run.turn, Run.lowFirst, CallKinds.callsIn, Clamped.exactOf, Clamped.exactly, Clamped.none, Clamped.layOutside}
+use Rattle.model.specs.{Step.variable, Step.calledOf, Step.made, Step.effectBy, Step.steppedBy, Step.does, Step.callOf, Step.kindsBy, Step.callsBy, Step.begun}
+use Rattle.model.specs.{Process.Process, Process.entry, Process.stored, Process.step, Process.command, Process.stopped, Process.refill, State.Processes, State.Role}
+use Rattle.model.specs.{State.leads, State.follows, State.role, State.leader, State.ticked, State.State, State.process, State.withProcess, State.noted, Message.received}
+use Rattle.model.specs.{Message.receive, Message.send, Verdict.idles, Run.waitsAt, Run.share, Run.lead, Run.followed, Run.moved, Run.following, Run.counted, Run.turnBy}
+use Rattle.model.specs.{Run.turn, Run.lowFirst, CallKinds.callsIn, Clamped.exactOf, Clamped.exactly, Clamped.none, Clamped.layOutside}
 use Rattle.model.specs.Arith.{sum, difference, product, quotient, computed, clampsBy, byZero, isZero}
 use Rattle.model.specs.Data.{Entry, Absent, Key, Op, Set, Add, Sub, Mul, Div, Read, Has, Put, Drop, IfNeg, IfZero, Jump, Receive, Send, Stop, Command, Call, Neither}
 use Rattle.model.specs.Data.{Receives, Sends, Level, Low, High, Execution}

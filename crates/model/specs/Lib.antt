@@ -1,5 +1,5 @@
 -- Document 01 as definitions, in its order, with the rule of document 02's Note 2 in the turn and Note 3's number in the answer, and what document 02 shares
--- with it; then what is claimed of them.
+-- with it; then what is claimed of them, and of the plain run of Note 4.
 pub mod Data
 pub mod Limits
 pub mod Parsed

@@ -7,12 +7,11 @@ use mathlib.Core.List.{List, [], _∷_, _++_, append-assoc}
 use native.Mathlib.{Omega.arith, Nat.zero-add, Nat.mul-le-mul}
 use lib.{Dec.leb, Dec.ltb, ListN.length, ListN.getD, ListN.drop, ListN.replicate}
 use borrow.Author.Tests.{lt-leb, le-leb}
-use Rattle.model.specs.{Step.begun, Step.callOf, Stored.levelOf, Stored.jobOf, Stored.held, Stored.keyCapacity, Stored.messageCapacity, Stored.letterCapacity}
-use Rattle.model.specs.{Process.Process, Line.Sent, Process.command, Process.stopped, State.role, State.started, State.ticked, State.State, State.process, Line.lineLength}
-use Rattle.model.specs.{Line.lineBytes}
-use Rattle.model.specs.{Line.bytesOf, Line.memoryAfter, Verdict.GoesOn, Verdict.Ends, Verdict.Verdict, Verdict.short, Verdict.allUsed, Verdict.lacking, Verdict.noRoom}
-use Rattle.model.specs.{Verdict.verdictBy}
-use Rattle.model.specs.{Verdict.verdict, Run.turn, Run.ended, Run.runBy, Run.run, Process.fresh, Run.initial, Run.runJobBy, Run.runJob, Answer.left, Answer.leftBy}
+use Rattle.model.specs.{Step.begun, Step.callOf, Stored.levelOf, Stored.jobOf, Stored.held, Stored.keyCapacity, Stored.messageCapacity, Stored.letterCapacity, Line.Sent}
+use Rattle.model.specs.{Line.lineLength, Line.lineBytes, Line.bytesOf, Line.memoryAfter, Process.Process, Process.command, Process.stopped, Process.fresh, State.role}
+use Rattle.model.specs.{State.started, State.ticked, State.State, State.process, Verdict.GoesOn, Verdict.Ends, Verdict.Verdict, Verdict.short, Verdict.allUsed}
+use Rattle.model.specs.{Verdict.lacking, Verdict.noRoom, Verdict.verdictBy, Verdict.verdict, Run.turn, Run.ended, Run.runBy, Run.run, Run.initial, Run.runJobBy, Run.runJob}
+use Rattle.model.specs.{Answer.left, Answer.leftBy}
 use Rattle.model.specs.State as State
 use Rattle.model.specs.declared.{Entry.the-variants.Absent, Field.Field, Key.Key, Command.Command, Level.Level, Execution.Execution, Clock.Clock}
 use Rattle.model.specs.declared.{Ending.Ending, Answer.Answer, Answer.the-variants.Ended, StoredJob.StoredJob}

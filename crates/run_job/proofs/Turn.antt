@@ -7,13 +7,11 @@ use native.Mathlib.{Nat.add-zero, Numerals.add-one, Omega.arith, Decide.decLt}
 use lib.{IntN.ℤ, Dec.ltb, Dec.leb, ListN.length, ListN.getD, ListN.drop, ListN.set, ListN.drop-of-length-le, Seq.drop-cons}
 use borrow.Author.Tests.{lt-ltb, le-ltb, lt-leb, le-leb}
 use Rattle.model.specs.{Step.variable, Step.afterOf, Step.calledOf, Step.effectOf, Step.Stepped, Step.steppedBy, Step.does, Step.callOf, Step.callsBy, Stored.keysIn}
-use Rattle.model.specs.{Stored.entriesIn, Stored.side, Stored.withSide, Stored.held, Stored.absentField, Stored.kindOf, Stored.kindsIn, Stored.jobOf, Process.Process, Line.Sent}
-use Rattle.model.specs.{Process.entry, Process.stored, Process.step, Process.command, Process.stopped, State.Role, State.leads, State.follows, State.role, Process.refill}
-use Rattle.model.specs.{State.put, State.each}
-use Rattle.model.specs.{State.takenOf, State.takes, State.sends, State.ticked, State.State, State.process, State.fieldsOf, State.withProcess, Message.source}
-use Rattle.model.specs.{Message.received}
-use Rattle.model.specs.{Message.receive, Message.columns, Message.lineNow, Message.send, Line.lineLength, Line.lineBytes, Line.bytesOf, Verdict.kindAt, Verdict.waits, Verdict.idles, Run.waitsAt}
-use Rattle.model.specs.{Run.counted, Run.turn}
+use Rattle.model.specs.{Stored.entriesIn, Stored.side, Stored.withSide, Stored.held, Stored.absentField, Stored.kindOf, Stored.kindsIn, Stored.jobOf, Line.Sent}
+use Rattle.model.specs.{Line.lineLength, Line.lineBytes, Line.bytesOf, Process.Process, Process.entry, Process.stored, Process.step, Process.command, Process.stopped}
+use Rattle.model.specs.{Process.refill, State.Role, State.leads, State.follows, State.role, State.put, State.each, State.takenOf, State.takes, State.sends, State.ticked}
+use Rattle.model.specs.{State.State, State.process, State.fieldsOf, State.withProcess, Message.source, Message.received, Message.receive, Message.columns, Message.lineNow}
+use Rattle.model.specs.{Message.send, Verdict.kindAt, Verdict.waits, Verdict.idles, Run.waitsAt, Run.counted, Run.turn}
 use Rattle.model.specs.State as State
 use Rattle.model.specs.declared.{Entry.Entry, Entry.the-variants.Absent, Effect.Effect, Field.Field, Key.Key, Command.Command, Call.Call, Level.Level, Execution.Execution}
 use Rattle.model.specs.declared.{Clock.Clock, MessageLine.MessageLine, StoredJob.StoredJob}
