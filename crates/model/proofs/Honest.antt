@@ -16,13 +16,13 @@ use Rattle.model.specs.{Message.lineNow, Message.send}
 use Rattle.model.specs.{Verdict.short, Verdict.noRoom, Verdict.verdictBy, Verdict.verdict, Verdict.kindAt, Run.Outcome, Run.share, Run.lead, Run.followed}
 use Rattle.model.specs.{Run.turnBy, Run.turn, Run.ended, Run.settle}
 use Rattle.model.specs.{Run.runBy, Run.run, Run.initial, Run.runJobBy, Answer.numbersOf, Answer.runSheet}
-use Rattle.model.specs.Plain.{PlainJob, Alone, filled, nextFields, calling, callNow, called, stepAlone, plainAt, callAtStep, entriesAtStep}
-use Rattle.model.specs.Honest.{pairs, dummyAt, dummied, onReal, onDummies, Honest, lineOfStep, linesFrom, HoldsLines, HonestLosesNothing, HonestSheetLosesNothing}
+use Rattle.model.specs.Plain.{PlainJob, PlainState, filled, nextFields, calling, callNow, callMade, plainStep, plainAt, callAtStep, entriesAtStep}
+use Rattle.model.specs.Honest.{timesLH, dummyAt, dummied, onReal, onDummies, Honest, lineOfStep, linesFrom, HoldsLines, HonestLosesNothing, HonestSheetLosesNothing}
 use Rattle.model.specs.Honest.{PairsWithin}
 use Rattle.model.specs.Data.{Entry, Absent, Number, Key, Open, Secret, Command, Call, Neither, Receives, Sends, Level, Low, High, Execution, Clock, LettersUsed}
 use Rattle.model.proofs.{Accepted.accepted-sound, Levels.at-each, Turn.calls, Turn.share-kinds, Turn.turn-clock, Counted.columns-length, Counted.counts-of}
 use Rattle.model.proofs.{CallKinds.Counts, CallKinds.rests, CallKinds.goes-on, CallKinds.turn-counts}
-use Rattle.model.proofs.Plain.{stopped-of, command-of, calling-execution, now-stopped, now-going, moved, by-step, step-stopped, step-going, step-counts}
+use Rattle.model.proofs.Plain.{stopped-of, command-of, calling-execution, now-stopped, now-going, movedOn, by-step, step-stopped, step-going, step-counts}
 use Rattle.model.proofs.Plain.{plain-length, sends-fields}
 
 -- ---- What a level is shown of the message lines
@@ -74,7 +74,7 @@ module _ (ks : List Key) where
   rest-seen High (m ∷ ms) n = refl
 
   -- a level's execution in a state of the paired run, as one that works alone
-  abbrev alone : Level → State → Alone
+  abbrev alone : Level → State → PlainState
   alone l s = record { process = process l s; rest = seen l (s .incoming .rest) }
 
   -- what a call of the leader does to the message is, at each level, what a call of its own does to that of a plain run
@@ -90,14 +90,14 @@ module _ (ks : List Key) where
 
 -- ---- An execution that follows, once the leader has made the call that it makes itself
 
-module _ (n : ℕ) (cs : List Command) (kinds : List Call) (a : Alone) (agreed : kindAt kinds (a .process .execution .calls) ≡ callNow cs a) where
-  abbrev own : Alone
-  own = called n cs a
+module _ (n : ℕ) (cs : List Command) (kinds : List Call) (a : PlainState) (agreed : kindAt kinds (a .process .execution .calls) ≡ callNow cs a) where
+  abbrev own : PlainState
+  own = callMade n cs a
 
   still : own .process .execution ≡ a .process .execution
   still = calling-execution (callNow cs a) n a
 
-  abbrev follower : Alone
+  abbrev follower : PlainState
   follower = record { process = followed cs kinds (own .process); rest = own .rest }
 
   rested : stopped cs (a .process) ≡ true → follower ≡ a
@@ -106,7 +106,7 @@ module _ (n : ℕ) (cs : List Command) (kinds : List Call) (a : Alone) (agreed :
       ap (λ (p : Process). record { process = p; rest = own .rest }) (rests cs kinds (own .process) (stopped-of cs (own .process) (a .process) still ∙ e))
       ∙ ap (λ (k : Call). calling k n a) (now-stopped n cs a e)
 
-  gone-on : stopped cs (a .process) ≡ false → follower ≡ moved n cs a
+  gone-on : stopped cs (a .process) ≡ false → follower ≡ movedOn n cs a
   gone-on e =
       let same = command-of cs (own .process) (a .process) still in
       let going = stopped-of cs (own .process) (a .process) still ∙ e in
@@ -114,7 +114,7 @@ module _ (n : ℕ) (cs : List Command) (kinds : List Call) (a : Alone) (agreed :
       ap (λ (p : Process). record { process = p; rest = own .rest }) (goes-on cs kinds (own .process) going kind ∙ ap (λ (c : Command). step (length cs) c (own .process)) same)
 
   -- it does what a plain run does
-  follower-step : follower ≡ stepAlone n cs a
+  follower-step : follower ≡ plainStep n cs a
   follower-step = by-step n cs a (λ b. follower ≡ b) rested gone-on
 
 -- the kind behind the others is the call's; of a command that is no call there is none
@@ -140,15 +140,15 @@ module _ (ks : List Key) (cs : List Command) (s : State) where
   abbrev whole : State
   whole = turn ks cs High half
 
-  low-step : stopped cs (process Low s) ≡ false → stepAlone (length ks) cs (alone ks Low s) ≡ alone ks Low half
+  low-step : stopped cs (process Low s) ≡ false → plainStep (length ks) cs (alone ks Low s) ≡ alone ks Low half
   unfolding turnBy lead at put
   low-step e =
       step-going (length ks) cs (alone ks Low s) e
-      ∙ ap (λ (b : Alone). record { process = step (length cs) (command cs (process Low s)) (b .process); rest = b .rest })
+      ∙ ap (λ (b : PlainState). record { process = step (length cs) (command cs (process Low s)) (b .process); rest = b .rest })
       (ap (λ (k : Call). calling k (length ks) (alone ks Low s)) (now-going (length ks) cs (alone ks Low s) e) ∙ share-alone ks kind Low s)
 
   module _ (same : callNow cs (alone ks High s) ≡ kind) (even : process High s .execution .calls ≡ length (s .kinds)) where
-    high-called : called (length ks) cs (alone ks High s) ≡ alone ks High half
+    high-called : callMade (length ks) cs (alone ks High s) ≡ alone ks High half
     unfolding turnBy lead at put
     high-called = ap (λ (k : Call). calling k (length ks) (alone ks High s)) same ∙ share-alone ks kind High s
 
@@ -156,11 +156,11 @@ module _ (ks : List Key) (cs : List Command) (s : State) where
     unfolding turnBy lead
     agreed = ap₂ kindAt (share-kinds ks s kind) even ∙ last-kind kind (s .kinds) ∙ sym same
 
-    high-step : stepAlone (length ks) cs (alone ks High s) ≡ alone ks High whole
+    high-step : plainStep (length ks) cs (alone ks High s) ≡ alone ks High whole
     unfolding turnBy at put
     high-step =
         sym (follower-step (length ks) cs (half .kinds) (alone ks High s) agreed)
-        ∙ ap (λ (b : Alone). record { process = followed cs (half .kinds) (b .process); rest = b .rest }) high-called
+        ∙ ap (λ (b : PlainState). record { process = followed cs (half .kinds) (b .process); rest = b .rest }) high-called
 
   -- the high turn leaves the low execution and the output
   low-still : alone ks Low whole ≡ alone ks Low half
@@ -193,7 +193,7 @@ columns-high ks f wide opens = ext-getD Absent (columns 0 ks f) (f High) (column
     column k below = columns-at 0 ks f k below ∙ ap (λ (n : ℕ). getD (f (source (getD ks k Open))) n Absent) (omega arith) ∙ by-key k below (getD ks k Open) refl
 
 module _ (ks : List Key) (s : State) (m : ℕ) (es : List Entry) where
-  -- so many bytes, and behind the lines sent that of step m, if its call sends
+  -- the output once step m has sent its line, if its call sends, and the bytes with it
   abbrev withLine : Call → Outgoing
   withLine k = record { sent = s .outgoing .sent ++ lineOfStep k m es; bytes = s .outgoing .bytes + lineLength ks * length (lineOfStep k m es) }
 
@@ -235,7 +235,7 @@ module _ (ks : List Key) (cs : List Command) (lent : ℕ) (s : State) where
   unfolding runBy verdict
   run-on l ls e f = rw (e, f)
 
--- ---- The induction over the pairs
+-- ---- The induction over the pairs of turns
 
 module _ (j : Job) (N lent : ℕ) (honest : Honest j N) where
   abbrev ks : List Key
@@ -267,7 +267,7 @@ module _ (j : Job) (N lent : ℕ) (honest : Honest j N) where
       let a = plainAt dummies m in
       ap₂ (λ (k : Call) (ls : List Sent). lineOfStep k m (entriesAtStep real m) ++ ls)
       (honest .calls m (omega arith) ∙ now-stopped (length ks) cs a h)
-      (quiet n (suc m) (omega arith) (ap (λ (b : Alone). stopped cs (b .process)) (step-stopped (length ks) cs a h) ∙ h))
+      (quiet n (suc m) (omega arith) (ap (λ (b : PlainState). stopped cs (b .process)) (step-stopped (length ks) cs a h) ∙ h))
 
   -- The paired run after m pairs of turns, with n to come
   record After (m n : ℕ) (s : State) : Type 0 where
@@ -292,7 +292,7 @@ module _ (j : Job) (N lent : ℕ) (honest : Honest j N) where
     even : process High s .execution .calls ≡ length (s .kinds)
     unfolding at calls
     even =
-        let count : Alone → ℕ = λ a. a .process .execution .calls in
+        let count : PlainState → ℕ = λ a. a .process .execution .calls in
         ap count (sym (h .high)) ∙ as-many m (omega arith) ∙ ap count (h .low) ∙ sym (h .kinds)
 
     -- the line that it sends, if it sends
@@ -306,10 +306,10 @@ module _ (j : Job) (N lent : ℕ) (honest : Honest j N) where
     -- a send's columns are what the plain run sends
     columns-real : low-call ≡ Sends → columns 0 ks (fieldsOf s) ≡ entriesAtStep real m
     columns-real c =
-        let fields : Alone → List Entry = λ a. a .process .fields in
+        let fields : PlainState → List Entry = λ a. a .process .fields in
         let here = sends-fields real m (real-calls ∙ c) in
         let there = sends-fields dummies m (sym (honest .calls m (omega arith)) ∙ real-calls ∙ c) in
-        columns-high ks (fieldsOf s) (ap (λ (a : Alone). length (fields a)) (sym (h .high)) ∙ plain-length real m)
+        columns-high ks (fieldsOf s) (ap (λ (a : PlainState). length (fields a)) (sym (h .high)) ∙ plain-length real m)
         (λ k isKey isOpen.
         ap (λ (es : List Entry). getD es k Absent) (ap fields (sym (h .high)) ∙ sym here)
         ∙ honest .entries m (omega arith) (real-calls ∙ c) k isKey isOpen
@@ -326,7 +326,7 @@ module _ (j : Job) (N lent : ℕ) (honest : Honest j N) where
 
     half-low : plainAt dummies (suc m) ≡ alone ks Low (half ks cs s)
     unfolding plainAt
-    half-low = ap (stepAlone (length ks) cs) (h .low) ∙ low-step ks cs s going
+    half-low = ap (plainStep (length ks) cs) (h .low) ∙ low-step ks cs s going
 
     has-room : short low-call (lent - s .outgoing .bytes) (lineLength ks) ≡ false
     has-room =
@@ -350,7 +350,7 @@ module _ (j : Job) (N lent : ℕ) (honest : Honest j N) where
     unfolding plainAt
     next =
         record {
-          high = ap (stepAlone (length ks) cs) (h .high) ∙ high-step ks cs s high-calls even;
+          high = ap (plainStep (length ks) cs) (h .high) ∙ high-step ks cs s high-calls even;
           low = half-low ∙ sym (low-still ks cs s);
           kinds = turn-counts ks cs High (half ks cs s) (turn-counts ks cs Low s (h .kinds));
           positions = clock-after;
@@ -367,7 +367,7 @@ module _ (j : Job) (N lent : ℕ) (honest : Honest j N) where
   module _ (n m : ℕ) (s : State) (e : N ≡ m + suc n) (h : After m (suc n) s) where
     -- what is to be shown of the pairs that come after this one
     abbrev Later : Type 0
-    Later = After (suc m) n (whole ks cs s) → Sending (suc m) n (whole ks cs s) (run ks cs lent (whole ks cs s) (pairs n))
+    Later = After (suc m) n (whole ks cs s) → Sending (suc m) n (whole ks cs s) (run ks cs lent (whole ks cs s) (timesLH n))
 
     module _ (going : stopped cs (process Low s) ≡ false) where
       -- the low turn's line stands before what is sent later
@@ -377,27 +377,27 @@ module _ (j : Job) (N lent : ℕ) (honest : Honest j N) where
           ∙ append-assoc (s .outgoing .sent) (line n m s e h going) (linesFrom real (suc m) n)
           ∙ ap (λ (ls : List Sent). s .outgoing .sent ++ ls) (sym (lines-split n m s e h going))
 
-      from-half : Later → (b : Bool) → stopped cs (process Low (half ks cs s)) ≡ b → Sending m (suc n) s (run ks cs lent (half ks cs s) (High ∷ pairs n))
+      from-half : Later → (b : Bool) → stopped cs (process Low (half ks cs s)) ≡ b → Sending m (suc n) s (run ks cs lent (half ks cs s) (High ∷ timesLH n))
       unfolding noRoom
       from-half later true d =
-          run-stopped ks cs lent (half ks cs s) (High ∷ pairs n) d
-          ∙ nothing-more n (suc m) (half ks cs s .outgoing .sent) (omega arith) (ap (λ (a : Alone). stopped cs (a .process)) (half-low n m s e h going) ∙ d)
+          run-stopped ks cs lent (half ks cs s) (High ∷ timesLH n) d
+          ∙ nothing-more n (suc m) (half ks cs s .outgoing .sent) (omega arith) (ap (λ (a : PlainState). stopped cs (a .process)) (half-low n m s e h going) ∙ d)
           ∙ joined
       from-half later false d =
-          run-on ks cs lent (half ks cs s) High (pairs n) d refl
+          run-on ks cs lent (half ks cs s) High (timesLH n) d refl
           ∙ later (next n m s e h going)
           ∙ ap (λ (o : Outgoing). o .sent ++ linesFrom real (suc m) n) (output-still ks cs s)
           ∙ joined
 
-    from-pair : Later → (b : Bool) → stopped cs (process Low s) ≡ b → Sending m (suc n) s (run ks cs lent s (Low ∷ High ∷ pairs n))
+    from-pair : Later → (b : Bool) → stopped cs (process Low s) ≡ b → Sending m (suc n) s (run ks cs lent s (Low ∷ High ∷ timesLH n))
     unfolding noRoom
     from-pair later true d =
-        run-stopped ks cs lent s (Low ∷ High ∷ pairs n) d ∙ nothing-more (suc n) m (s .outgoing .sent) e (ap (λ (a : Alone). stopped cs (a .process)) (h .low) ∙ d)
+        run-stopped ks cs lent s (Low ∷ High ∷ timesLH n) d ∙ nothing-more (suc n) m (s .outgoing .sent) e (ap (λ (a : PlainState). stopped cs (a .process)) (h .low) ∙ d)
     from-pair later false d =
-        run-on ks cs lent s Low (High ∷ pairs n) d (has-room n m s e h d) ∙ from-half d later (stopped cs (process Low (half ks cs s))) refl
+        run-on ks cs lent s Low (High ∷ timesLH n) d (has-room n m s e h d) ∙ from-half d later (stopped cs (process Low (half ks cs s))) refl
 
-  sending : (n m : ℕ) (s : State) → N ≡ m + n → After m n s → Sending m n s (run ks cs lent s (pairs n))
-  unfolding pairs linesFrom
+  sending : (n m : ℕ) (s : State) → N ≡ m + n → After m n s → Sending m n s (run ks cs lent s (timesLH n))
+  unfolding timesLH linesFrom
   sending zero m s e h = run-used ks cs lent s ∙ sym (append-nil (s .outgoing .sent))
   sending (suc n) m s e h = from-pair n m s e h (sending n (suc m) (whole ks cs s) (omega arith)) (stopped cs (process Low s)) refl
 
@@ -421,8 +421,8 @@ honest-sheet-loses-nothing t j N m read turns honest room =
       memory = ap (λ (ls : List Sent). bytesOf ls ++ drop (length (bytesOf ls)) m) same;
     })
 
-pairs-length : (N : ℕ) → length (pairs N) ≡ 2 * N
-unfolding pairs
+pairs-length : (N : ℕ) → length (timesLH N) ≡ 2 * N
+unfolding timesLH
 pairs-length zero = refl
 pairs-length (suc N) = omega (arith, pairs-length N)
 

@@ -6,17 +6,17 @@ use mathlib.Core.List.{List, [], _∷_, _++_}
 use lib.{IntN.ℤ, IntN.pos, ListN.length, ListN.getD, ListN.replicate, Signed.mag}
 use native.Mathlib.{Omega.arith, Nat.add-zero}
 use Rattle.model.specs.{Text.bytes, Step.numberOf, Job.Job, Line.Sent, Line.bytesOf, Examples.lentByRunsheet}
-use Rattle.model.specs.Plain.{PlainJob, filled, nextFields, calling, callNow, stepAlone, plainAt, callAtStep, entriesAtStep}
-use Rattle.model.specs.Honest.{pairs, dummyAt, dummied, onReal, onDummies, Honest, linesFrom}
+use Rattle.model.specs.Plain.{PlainJob, filled, nextFields, calling, callNow, plainStep, plainAt, callAtStep, entriesAtStep}
+use Rattle.model.specs.Honest.{timesLH, dummyAt, dummied, onReal, onDummies, Honest, linesFrom}
 use Rattle.model.specs.HonestExamples.{stepsFrom, callsOf, Comparison, compared, Case, job, Shown, Spoilt, callsHonest, doubles, HonestExample, eitherKind, orderOnly}
 use Rattle.model.specs.HonestExamples.{OrderBefore, sendsOnly, callsOnly, AllSpoilt}
 use Rattle.model.specs.Data.{Entry, Absent, Number, Key, Open, Secret, Call, Neither, Receives, Sends}
 use Rattle.model.proofs.{Examples.opened, Honest.honest-loses-nothing}
 
 -- opens what the plain runs go through
-unfoldable pub computed : Unit {0}
-unfolding opened filled nextFields calling callNow stepAlone plainAt callAtStep entriesAtStep pairs dummyAt dummied linesFrom stepsFrom compared
-computed = tt
+unfoldable pub openedPlain : Unit {0}
+unfolding opened filled nextFields calling callNow plainStep plainAt callAtStep entriesAtStep timesLH dummyAt dummied linesFrom stepsFrom compared
+openedPlain = tt
 
 -- ---- Steps
 
@@ -58,12 +58,12 @@ honest-if j N d calls opens keys c₁ c₂ o₁ o₂ =
 -- ---- The honest program
 
 shown-honest : Shown doubles
-unfolding computed
+unfolding openedPlain
 shown-honest = record { accepts = refl; room = omega arith; compares = refl }
 
 -- its open entry is that of the first message for six steps, and then that of the second
 honest : Honest (job doubles) 12
-unfolding computed
+unfolding openedPlain
 honest =
     honest-if (job doubles) 12 (pos 300) callsHonest (replicate 6 (Number (pos 1)) ++ replicate 6 (Number (pos 2)))
     refl (ap (λ (c : Comparison). c .real) (shown-honest .compares)) (ap (λ (c : Comparison). c .dummies) (shown-honest .compares)) refl refl
@@ -77,7 +77,7 @@ abbrev byteAt : ℕ → List Sent → ℕ
 byteAt n ls = getD (bytesOf ls) n 0
 
 pub honest-example : HonestExample
-unfolding computed
+unfolding openedPlain
 honest-example =
     record {
       shown = shown-honest;
@@ -113,7 +113,7 @@ spoilt c h dishonest i differs =
 
 -- each has its step and its place
 pub all-spoilt : AllSpoilt
-unfolding computed
+unfolding openedPlain
 all-spoilt = (
   spoilt eitherKind (record { accepts = refl; room = omega arith; compares = refl }) (λ h. omega (arith, ap kind (h .calls 3 (omega arith)))) 0 (λ e. omega arith),
   (
@@ -131,5 +131,5 @@ all-spoilt = (
 
 -- before they differ, the calls of the second are the same
 pub order-before : OrderBefore
-unfolding computed
+unfolding openedPlain
 order-before = honest-if (job orderOnly) 3 (pos 1) (Receives ∷ Neither ∷ Neither ∷ []) (replicate 3 Absent) refl refl refl refl refl

@@ -9,9 +9,9 @@ use Rattle.model.specs.Plain.{PlainJob, callAtStep, entriesAtStep}
 use Rattle.model.specs.Data.{Entry, Absent, Number, Key, Open, Secret, Call, Neither, Receives, Sends, Level, Low, High}
 
 -- "Take N from 1 to 512 and turns of N times LH."
-unfoldable pub pairs : ℕ → List Level
-pairs zero = []
-pairs (suc n) = Low ∷ High ∷ pairs n
+unfoldable pub timesLH : ℕ → List Level
+timesLH zero = []
+timesLH (suc n) = Low ∷ High ∷ timesLH n
 
 -- ---- "Compare the plain run of N steps with the plain run on the same messages where every secret key of each message line holds its dummy."
 
@@ -69,7 +69,7 @@ HoldsLines j N lent = lineLength (j .keys) * length (plainLines j N) ≤ lent
 -- Of every job, whatever its keys, commands, messages and dummies, and every N, so that those from 1 to 512 are among them: the lines of the paired run are
 -- those lines. (How it ends is no part of the claim.)
 abbrev pub HonestLosesNothing : Type 0
-HonestLosesNothing = (j : Job) (N lent : ℕ) → j .turns ≡ pairs N → Honest j N → HoldsLines j N lent → runJob j lent .lines ≡ plainLines j N
+HonestLosesNothing = (j : Job) (N lent : ℕ) → j .turns ≡ timesLH N → Honest j N → HoldsLines j N lent → runJob j lent .lines ≡ plainLines j N
 
 -- What a run leaves in the memory m: those lines, the bytes written are theirs, and behind them the old bytes
 pub record SendsAsPlain (j : Job) (N : ℕ) (m : List ℕ) (x : Left) : Type 0 where
@@ -79,9 +79,9 @@ pub record SendsAsPlain (j : Job) (N : ℕ) (m : List ℕ) (x : Left) : Type 0 w
 -- The same of an accepted sheet as a text, run as in demand 2
 abbrev pub HonestSheetLosesNothing : Type 0
 HonestSheetLosesNothing =
-    (t : List ℕ) (j : Job) (N : ℕ) (m : List ℕ) → readSheet t ≡ accepted j → j .turns ≡ pairs N → Honest j N → HoldsLines j N (length m)
+    (t : List ℕ) (j : Job) (N : ℕ) (m : List ℕ) → readSheet t ≡ accepted j → j .turns ≡ timesLH N → Honest j N → HoldsLines j N (length m)
     → SendsAsPlain j N m (runSheet t m)
 
 -- "Take N from 1 to 512": of an accepted sheet, which has from 1 to 1024 letters, N is one of these
 abbrev pub PairsWithin : Type 0
-PairsWithin = (t : List ℕ) (j : Job) (N : ℕ) → readSheet t ≡ accepted j → j .turns ≡ pairs N → (1 ≤ N) × (N ≤ 512)
+PairsWithin = (t : List ℕ) (j : Job) (N : ℕ) → readSheet t ≡ accepted j → j .turns ≡ timesLH N → (1 ≤ N) × (N ≤ 512)

@@ -7,16 +7,13 @@ use mathlib.Core.List.{List, [], _∷_, _++_}
 use lib.ListN.{getD}
 use Rattle.model.specs.{Text.bytes, Job.Job, Sheet.Reading, Sheet.accepted, Sheet.refused, Sheet.readSheet, Line.bytesOf, Run.runJob, Accepted.Every, Examples.lentByRunsheet}
 use Rattle.model.specs.Plain.{PlainJob, callAtStep, entriesAtStep}
-use Rattle.model.specs.Honest.{pairs, onReal, onDummies, Honest, plainLines, HoldsLines}
+use Rattle.model.specs.Honest.{timesLH, onReal, onDummies, Honest, plainLines, HoldsLines}
 use Rattle.model.specs.Data.{Absent, Call, Neither, Receives, Sends, Level}
 
 -- the job that a sheet says; of a refused one, which none of these is, one with nothing in it
 abbrev pub said : Reading → Job
 said (accepted j) = j
 said (refused n l) = record { keys = []; commands = []; messages = []; turns = [] }
-
-abbrev pub jobOf : List ℕ → Job
-jobOf t = said (readSheet t)
 
 -- what f gives for the n steps from step s on, and the calls of a plain run of N steps
 unfoldable pub stepsFrom : {A : Type 0} → (ℕ → A) → ℕ → ℕ → List A
@@ -55,13 +52,13 @@ pub record Case : Type 0 where
   pub plain : String
 
 abbrev pub job : Case → Job
-job c = jobOf (c .sheet)
+job c = said (readSheet (c .sheet))
 
 -- It is accepted, there is memory for the lines, and it is as it says
 pub record Shown (c : Case) : Type 0 where
   pub accepts : readSheet (c .sheet) ≡ accepted (job c)
   pub room : HoldsLines (job c) (c .steps) lentByRunsheet
-  pub compares : compared (job c) (c .steps) ≡ record { turns = pairs (c .steps); real = c .real; dummies = c .dummies; monitor = bytes (c .monitor); plain = bytes (c .plain) }
+  pub compares : compared (job c) (c .steps) ≡ record { turns = timesLH (c .steps); real = c .real; dummies = c .dummies; monitor = bytes (c .monitor); plain = bytes (c .plain) }
 
 -- It fails the hypothesis, and the conclusion
 pub record Spoilt (c : Case) : Type 0 where

@@ -2,7 +2,7 @@
 use mathlib.Core.List.{List, [], _∷_}
 use lib.ListN.{getD, drop, length}
 use Prim.Native.Nat.{ℕ, suc}
-use Rattle.model.specs.{Process.allAbsent, Process.refill, Line.Sent, Line.lineLength, State.each, State.takes, State.sends, State.State, State.fieldsOf, State.withOutgoing}
+use Rattle.model.specs.{Process.absentFields, Process.refill, Line.Sent, Line.lineLength, State.each, State.takes, State.sends, State.State, State.fieldsOf, State.withOutgoing}
 use Rattle.model.specs.Data.{Entry, Absent, Number, Key, Open, Secret, Level, Low, High}
 
 -- ---- `receive`
@@ -21,7 +21,7 @@ fill l (k ∷ ks) es = shown l k (getD es 0 Absent) ∷ fill l ks (drop 1 es)
 
 -- "`receive` takes the next message line and fills all fields"; "With no line left, every field becomes absent."
 unfoldable pub received : List Key → List (List Entry) → Level → List Entry
-received ks [] l = allAbsent (length ks)
+received ks [] l = absentFields (length ks)
 received ks (line ∷ rest) l = fill l ks line
 
 unfoldable pub receive : List Key → State → State

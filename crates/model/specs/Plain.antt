@@ -5,7 +5,7 @@ use Prim.Native.Nat.{ℕ, zero, suc}
 use mathlib.Core.Bool.{cond}
 use mathlib.Core.List.{List, [], _∷_}
 use lib.ListN.{length, getD, drop}
-use Rattle.model.specs.{Step.callOf, Process.Process, Process.allAbsent, Process.fresh, Process.refill, Process.step, Process.command, Process.stopped}
+use Rattle.model.specs.{Step.callOf, Process.Process, Process.absentFields, Process.fresh, Process.refill, Process.step, Process.command, Process.stopped}
 use Rattle.model.specs.Data.{Entry, Absent, Command, Call, Neither, Receives, Sends}
 
 -- What a plain run is of: how many keys there are, and not which are secret; the commands; the messages
@@ -15,7 +15,7 @@ pub record PlainJob : Type 0 where
   pub messages : List (List Entry)
 
 -- "one execution works alone, with one field to a key": the execution with its fields, and the message lines that it has not received
-pub record Alone : Type 0 where
+pub record PlainState : Type 0 where
   pub process : Process
   pub rest : List (List Entry)
 
@@ -28,11 +28,11 @@ filled (suc n) es = getD es 0 Absent ∷ filled n (drop 1 es)
 
 -- as the lines that are left fill them: the next one does; "With no line left, every field becomes absent."
 unfoldable pub nextFields : ℕ → List (List Entry) → List Entry
-nextFields n [] = allAbsent n
+nextFields n [] = absentFields n
 nextFields n (line ∷ rest) = filled n line
 
 -- What a call does to its message: "`receive` takes the next message line and fills all fields"; of `send`, "The message is unchanged by it."
-unfoldable pub calling : Call → ℕ → Alone → Alone
+unfoldable pub calling : Call → ℕ → PlainState → PlainState
 calling Neither n a = a
 calling Receives n a = record { process = refill (nextFields n (a .rest)) (a .process); rest = drop 1 (a .rest) }
 calling Sends n a = a
@@ -40,23 +40,23 @@ calling Sends n a = a
 -- ---- Its steps
 
 -- the call that its next step makes, if it makes one; "once stopped it does nothing more"
-unfoldable pub callNow : List Command → Alone → Call
+unfoldable pub callNow : List Command → PlainState → Call
 callNow cs a = cond (stopped cs (a .process)) Neither (callOf (command cs (a .process) .op))
 
 -- once that call is made, and before the execution moves on
-abbrev pub called : ℕ → List Command → Alone → Alone
-called n cs a = calling (callNow cs a) n a
+abbrev pub callMade : ℕ → List Command → PlainState → PlainState
+callMade n cs a = calling (callNow cs a) n a
 
 -- one step; "once stopped it does nothing more"
-unfoldable pub stepAlone : ℕ → List Command → Alone → Alone
-stepAlone n cs a =
-    let b = called n cs a in
+unfoldable pub plainStep : ℕ → List Command → PlainState → PlainState
+plainStep n cs a =
+    let b = callMade n cs a in
     cond (stopped cs (a .process)) a (record { process = step (length cs) (command cs (a .process)) (b .process); rest = b .rest })
 
 -- before step s, "counted from 0"
-unfoldable pub plainAt : PlainJob → ℕ → Alone
+unfoldable pub plainAt : PlainJob → ℕ → PlainState
 plainAt j zero = record { process = fresh (j .keys); rest = j .messages }
-plainAt j (suc s) = stepAlone (j .keys) (j .commands) (plainAt j s)
+plainAt j (suc s) = plainStep (j .keys) (j .commands) (plainAt j s)
 
 -- ---- What it receives and sends
 
@@ -66,4 +66,4 @@ callAtStep j s = callNow (j .commands) (plainAt j s)
 
 -- and the entries that it receives or sends there; at any other step, those that it has
 unfoldable pub entriesAtStep : PlainJob → ℕ → List Entry
-entriesAtStep j s = called (j .keys) (j .commands) (plainAt j s) .process .fields
+entriesAtStep j s = callMade (j .keys) (j .commands) (plainAt j s) .process .fields

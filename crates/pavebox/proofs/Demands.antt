@@ -15,7 +15,7 @@ use Rattle.model.specs.declared.Level.the-variants.{High}
 use Rattle.model.specs.declared.Answer.{Answer}
 use Rattle.model.specs.declared.Answer.the-variants.{Ended, Refused}
 use Rattle.model.proofs.{Placed.front-length, Counted.counts-of, Examples.opened, Secrecy.secrecy, Witness.telling as witness, Honest.honest-sheet-loses-nothing}
-use Rattle.model.proofs.{HonestExamples.computed, HonestExamples.honest-example}
+use Rattle.model.proofs.{HonestExamples.openedPlain, HonestExamples.honest-example}
 use Rattle.whole_sheet.proofs.Laws.{accepted-left, refused-left}
 use Rattle.pavebox.proofs.Laws.{entered-sized}
 use Rattle.pavebox.specs.Demands.{Called, Demand2, Demand1Holds, Demand2Holds, SeventhHolds, HonestSendsHolds, Demand3Holds, answerLent, CalledOn, Telling, lentHonest}
@@ -132,7 +132,7 @@ telling =
     }
 
 pub honest-telling : HonestTelling
-unfolding computed entered runEntry le32 allLe32
+unfolding openedPlain entered runEntry le32 allLe32
 honest-telling =
     record {
       called = on lentHonest (doubles .sheet);

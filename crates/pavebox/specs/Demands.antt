@@ -7,7 +7,7 @@ use lib.ListN.{length, getD, take, drop, replicate}
 use Rattle.model.specs.{Answer.After, Answer.numbersOf, Answer.le32, Answer.allLe32, Answer.bytesFor, Answer.answerBytes, Answer.runSheet, Answer.runEntry, Job.Job}
 use Rattle.model.specs.{Line.bytesOf, Sheet.accepted}
 use Rattle.model.specs.{Sheet.readSheet, Run.runJob, Secrecy.Alike, Secrecy.Hidden, Witness.sheet2, Witness.sheet3, Witness.otherSheet, Witness.job2, Witness.job3}
-use Rattle.model.specs.{Run.lowTurnsOf, Clamped.clampedIn, Witness.lent, Text.bytes, Honest.pairs, Honest.Honest, Honest.plainLines, Honest.HoldsLines}
+use Rattle.model.specs.{Run.lowTurnsOf, Clamped.clampedIn, Witness.lent, Text.bytes, Honest.timesLH, Honest.Honest, Honest.plainLines, Honest.HoldsLines}
 use Rattle.model.specs.HonestExamples.{job, doubles, linesHonest}
 use Rattle.model.specs.Sheet as Sheet
 use Rattle.model.specs.declared.{Level.the-variants.High, Answer.the-variants.Refused}
@@ -65,7 +65,7 @@ SeventhHolds = (s o a : List ℕ) (r : ℕ) (o′ a′ : List ℕ) → Called s 
 abbrev pub HonestSendsHolds : Type 0
 HonestSendsHolds =
     (s o a : List ℕ) (r : ℕ) (o′ a′ : List ℕ) → Called s o a r o′ a′
-    → (j : Job) (N : ℕ) → readSheet s ≡ accepted j → j .turns ≡ pairs N → Honest j N → HoldsLines j N (length o)
+    → (j : Job) (N : ℕ) → readSheet s ≡ accepted j → j .turns ≡ timesLH N → Honest j N → HoldsLines j N (length o)
     → HonestSends o j N o′ a′
 
 abbrev pub Demand3Holds : Type 0
