@@ -18,7 +18,7 @@ use Rattle.model.proofs.{Placed.front-length, Counted.counts-of, Examples.opene
 use Rattle.model.proofs.{HonestExamples.openedPlain, HonestExamples.honest-example}
 use Rattle.whole_sheet.proofs.Laws.{accepted-left, refused-left}
 use Rattle.pavebox.proofs.Laws.{entered-sized}
-use Rattle.pavebox.specs.Demands.{Called, Demand2, Demand1Holds, Demand2Holds, SeventhHolds, HonestSendsHolds, Demand3Holds, answerLent, CalledOn, Telling, lentHonest}
+use Rattle.pavebox.specs.Demands.{Called, Demand2, Demand1Holds, Demand2Holds, SeventhHolds, fifth, HonestSendsHolds, Demand3Holds, answerLent, CalledOn, Telling, lentHonest}
 use Rattle.pavebox.specs.Demands.{HonestTelling}
 
 -- ---- What a run sends fits the memory that is lent to it
@@ -89,16 +89,12 @@ honest-sends s o a r o′ a′ c j N read turns honest room =
     let p = honest-sheet-loses-nothing s j N o read turns honest room in
     record {
       lines = d .memory ∙ p .memory;
-      written =
-          ap (λ (b : List ℕ). take (bytesFor 1) (drop (bytesFor 4) b)) (d .numbers)
-          ∙ fifth (runSheet s o .answer)
-          ∙ ap le32 (p .written);
+      written = ap fifth (d .numbers) ∙ is-written (runSheet s o .answer) ∙ ap le32 (p .written);
     }
   where
-    -- the fifth number of an answer
-    fifth : (x : Answer) → take (bytesFor 1) (drop (bytesFor 4) (allLe32 (numbersOf x))) ≡ le32 (bytesWritten (numbersOf x))
-    fifth (Ended e n) = refl
-    fifth (Refused n l) = refl
+    is-written : (x : Answer) → fifth (allLe32 (numbersOf x)) ≡ le32 (bytesWritten (numbersOf x))
+    is-written (Ended e n) = refl
+    is-written (Refused n l) = refl
 
 -- ---- The demands speak of something
 

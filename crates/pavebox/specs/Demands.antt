@@ -46,11 +46,15 @@ pub record Seventh (sheet output answer : List ℕ) (returned : ℕ) (output′ 
   pub accepts : (j : Job) → readSheet sheet ≡ accepted j → drop (bytesFor 6) answer′ ≡ le32 (clampedIn (j .commands) (lowTurnsOf j (runJob j (length output) .counts .positions)))
   pub refuses : (n l : ℕ) → readSheet sheet ≡ Sheet.refused n l → drop (bytesFor 6) answer′ ≡ le32 0
 
+-- the fifth number in an answer memory, the bytes written
+abbrev pub fifth : List ℕ → List ℕ
+fifth a = take (bytesFor 1) (drop (bytesFor 4) a)
+
 -- Document 02, Note 4, "Honest programs lose nothing": what the plain run of N steps on the real messages sends stands in the output memory, and behind it the old
--- bytes; and the bytes written, the fifth number in the answer memory, are those lines'
+-- bytes; and the bytes written, in the answer memory, are those lines'
 pub record HonestSends (output : List ℕ) (j : Job) (N : ℕ) (output′ answer′ : List ℕ) : Type 0 where
   pub lines : output′ ≡ bytesOf (plainLines j N) ++ drop (length (bytesOf (plainLines j N))) output
-  pub written : take (bytesFor 1) (drop (bytesFor 4) answer′) ≡ le32 (length (bytesOf (plainLines j N)))
+  pub written : fifth answer′ ≡ le32 (length (bytesOf (plainLines j N)))
 
 abbrev pub Demand1Holds : Type 0
 Demand1Holds = (s o a : List ℕ) (r : ℕ) (o′ a′ : List ℕ) → Called s o a r o′ a′ → Demand1 s o a r o′ a′
