@@ -3,7 +3,7 @@ use Prim.Native.Nat.{ℕ, _-_, _≤_}
 use mathlib.Core.Path.{_≡_, refl, sym, ap, _∙_}
 use mathlib.Core.List.{List, []}
 use native.Mathlib.Omega.{arith}
-use lib.ListN.{length, getD, take, drop}
+use lib.ListN.{length, getD, drop}
 use Rattle.model.specs.{Answer.After, Answer.Left, Answer.numbersOf, Answer.bytesFor, Answer.bytesWritten, Answer.allLe32, Answer.answeredBy, Answer.leftBy}
 use Rattle.model.specs.{Answer.numberCount, Answer.runSheet, Answer.entered, Answer.runEntry, Answer.le32}
 use Rattle.model.specs.{Job.Job, Placed.front, Line.bytesOf, Line.memoryAfter, Sheet.Reading, Sheet.accepted, Sheet.readSheet, Run.runJob, Secrecy.Indistinguishable}
