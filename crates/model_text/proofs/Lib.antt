@@ -3,6 +3,7 @@ pub mod Bytes
 pub mod Numbers
 pub mod Texts
 pub mod Messages
+pub mod Commands
 pub mod Short
 pub mod Phases
 pub mod Readings

@@ -5,15 +5,15 @@ use Prim.Native.Nat.{ℕ, suc, _+_, _-_, _≤_}
 use native.Mathlib.Omega.{arith}
 use lib.{IntN.ℤ, ListN.length, ListN.replicate, ListN.length-append, Seq.append-snoc, Seq.set-at}
 use borrow.Author.Tests.{le-leb}
-use Rattle.model.specs.{Parsed.Parsed, Parsed.got, Parsed._>>=_, Text.bytes, Text.split, Text.comma, Text.colon, Text.equalsSign, Decimal.natural, Decimal.whole}
+use Rattle.model.specs.{Parsed.Parsed, Parsed.got, Parsed._>>=_, Text.bytes, Text.split, Text.comma, Text.colon, Decimal.natural, Decimal.whole}
 use Rattle.model.specs.{Pair.ByKey, Pair.pair, Pair.part, Pair.entered, Messages.parts, Messages.message, Messages.messageLine as readMessage, Messages.allAbsent}
 use Rattle.model.specs.Accepted.{Every, InRange, EntryInRange, Full}
 use Rattle.model.specs.declared.Entry.{Entry}
 use Rattle.model.specs.declared.Entry.the-variants.{Absent, Number}
-use Rattle.model_text.specs.Text.{joined, named, pairText, pairs, messageText, messageLine}
-use Rattle.model_text.proofs.Bytes.{Between, Spans, Free, spans-free, spans-wider, every-append, every-made}
+use Rattle.model_text.specs.Text.{joined, pairText, pairs, messageText, messageLine}
+use Rattle.model_text.proofs.Bytes.{Spans, Free, spans-free, spans-wider, every-append, every-made}
 use Rattle.model_text.proofs.Numbers.{Small, natural-read, natural-spans, whole-read, whole-spans}
-use Rattle.model_text.proofs.Texts.{divide-past, split-joined}
+use Rattle.model_text.proofs.Texts.{divide-past, split-joined, spans-joined, named-printed}
 
 -- ---- One `key:value`
 
@@ -118,12 +118,6 @@ message-read K es small h =
 
 -- ---- The bytes of a message line
 
-spans-joined : (lo hi c : ℕ) → Between lo hi c → (ps : List (List ℕ)) → Every (Spans lo hi) ps → Spans lo hi (joined c ps)
-unfolding joined
-spans-joined lo hi c b [] h = tt
-spans-joined lo hi c b (p ∷ []) h = h .0
-spans-joined lo hi c b (p ∷ q ∷ ps) h = every-append (Between lo hi) p (c ∷ joined c (q ∷ ps)) (h .0) (b, spans-joined lo hi c b (q ∷ ps) (h .1))
-
 text-printed : (es : List Entry) → Spans 32 126 (messageText es)
 unfolding messageText
 text-printed es =
@@ -131,6 +125,5 @@ text-printed es =
     (every-made pairText (Spans 32 126) (λ x. spans-wider 45 58 32 126 (omega arith) (omega arith) (pairText x) (pair-spans x)) (pairs 0 es))
 
 pub line-printed : (es : List Entry) → Spans 32 126 (messageLine es)
-unfolding named bytes
-line-printed es =
-    every-append (Between 32 126) (bytes "msg") (equalsSign ∷ messageText es) (omega arith) (omega arith, text-printed es)
+unfolding bytes
+line-printed es = named-printed (bytes "msg") (messageText es) (omega arith) (text-printed es)

@@ -130,6 +130,15 @@ pub digit-length : (n : ℕ) → n < 10 → length (natural n) ≡ 1
 unfolding natural width widthTo
 digit-length n h = digits-length (width n) n ∙ rw (lt-ltb n 10 h)
 
+-- two digits at most, as the targets have
+pub two-digits : (n : ℕ) → n < 100 → length (natural n) ≤ 2
+unfolding natural width widthTo
+two-digits n h = omega (arith, digits-length (width n) n, go (ltb n 10))
+  where
+    go : (t : Bool) → cond t 1 (suc (widthTo 9 (n / 10))) ≤ 2
+    go true = omega arith
+    go false = rw (lt-ltb (n / 10) 10 (omega arith)) (omega arith)
+
 -- ---- A number of the full range
 
 plain-read : (s : List ℕ) → 1 ≤ length s → Spans 48 57 s → number s ≡ positive s

@@ -1,14 +1,18 @@
--- At most how many bytes message lines have.
+-- At most how many bytes message lines and command lines have.
 use mathlib.Core.List.{List, [], _∷_, map}
 use Prim.Native.Nat.{ℕ, suc, _+_, _-_, _*_, _<_, _≤_}
-use native.Mathlib.Omega.{arith}
+use native.Mathlib.{Omega.arith, Nat.mul-suc}
 use lib.{IntN.ℤ, ListN.length, ListN.length-append, ListN.length-map}
-use Rattle.model.specs.{Text.bytes, Text.lineFeed, Text.comma, Text.colon, Text.equalsSign, Decimal.natural, Decimal.whole, Accepted.Every, Accepted.Full}
-use Rattle.model.specs.declared.Entry.{Entry}
+use Rattle.model.specs.{Limits.mostCommands, Text.bytes, Text.lineFeed, Text.space, Text.comma, Text.colon, Text.equalsSign, Decimal.natural, Decimal.whole}
+use Rattle.model.specs.Accepted.{Every, Full, Within, rowFor}
+use Rattle.model.specs.declared.{Entry.Entry, Command.Command, Operand.Operand}
 use Rattle.model.specs.declared.Entry.the-variants.{Absent, Number}
+use Rattle.model.specs.declared.Operand.the-variants.{InV, InW, InK, InT, InN}
 use Rattle.model_text.specs.Text.{joined, unlines, named, pairText, pairs, messageText, messageLine, messageLines}
-use Rattle.model_text.specs.Pasted.{LinesShort}
-use Rattle.model_text.proofs.{Bytes.every-made-from, Numbers.digit-length, Numbers.whole-length}
+use Rattle.model_text.specs.Text.{operandText, operandTexts, commandText, commandLine, commandLines}
+use Rattle.model_text.specs.Pasted.{longestLine, LinesShort, longestCommand, CommandLinesShort}
+use Rattle.model_text.proofs.{Bytes.every-made-from, Numbers.digit-length, Numbers.two-digits, Numbers.whole-length}
+use Rattle.model_text.proofs.Commands.{widest, widestParts, in-table}
 
 -- a key of one digit, the colon, and a number of at most eleven bytes
 abbrev Short : List ℕ → Type 0
@@ -37,15 +41,50 @@ joined-short c [] h = omega arith
 joined-short c (p ∷ []) h = omega (arith, h .0)
 joined-short c (p ∷ q ∷ ps) h = omega (arith, length-append p (c ∷ joined c (q ∷ ps)), joined-short c (q ∷ ps) (h .1), h .0)
 
-line-short : (K : ℕ) (es : List Entry) → K ≤ 8 → Full K es → length (messageLine es) ≤ 115
+line-short : (K : ℕ) → K ≤ 8 → (es : List Entry) → Full K es → length (messageLine es) < longestLine
 unfolding named messageText bytes
-line-short K es l h =
+line-short K l es h =
     let q = h .0 in
     let ps = map pairText (pairs 0 es) in
     let s = joined-short comma ps (every-made-from pairText Short (λ kv. kv .0 < 10) pair-short (pairs 0 es) (keys-below 10 0 es (omega arith))) in
     omega (arith, s, length-map (pairs 0 es) pairText, pairs-most 0 es, length-append (bytes "msg") (equalsSign ∷ joined comma ps))
 
+-- ---- Lines
+
+-- lines that are written of things that P holds of, each with its line feed of at most so many bytes
+unlines-short : {A : Type 0} (g : A → List ℕ) (P : A → Type 0) (most : ℕ) → ((x : A) → P x → length (g x) < most)
+    → (xs : List A) → Every P xs → length (unlines (map g xs)) ≤ most * length xs
+unfolding unlines
+unlines-short g P most short [] h = omega arith
+unlines-short g P most short (x ∷ xs) h =
+    omega (arith, short x (h .0), unlines-short g P most short xs (h .1), length-append (g x) (lineFeed ∷ unlines (map g xs)), mul-suc most (length xs))
+
 pub lines-short : LinesShort
-unfolding messageLines unlines
-lines-short K [] l h = omega arith
-lines-short K (es ∷ ms) l h = omega (arith, lines-short K ms l (h .1), line-short K es l (h .0), length-append (messageLine es) (lineFeed ∷ unlines (map messageLine ms)))
+unfolding messageLines
+lines-short K ms l h = unlines-short messageLine (Full K) longestLine (line-short K l) ms h
+
+-- ---- Command lines
+
+module _ (K t : ℕ) (few : K ≤ 8) (near : t ≤ mostCommands) (c : Command) (h : Within K t c) where
+  operand-short : (o : Operand) → length (operandText o c) < widest o
+  unfolding operandText
+  operand-short InV = omega (arith, digit-length (c .v) (omega (arith, h .v)))
+  operand-short InW = omega (arith, digit-length (c .w) (omega (arith, h .w)))
+  operand-short InK = omega (arith, digit-length (c .k) (omega (arith, h .k)))
+  operand-short InT = omega (arith, two-digits (c .t) (omega (arith, h .t)))
+  operand-short InN = omega (arith, whole-length (c .n))
+
+  parts-short : (w : List ℕ) (os : List Operand) → length (joined space (w ∷ operandTexts os c)) ≤ length w + widestParts os
+  unfolding joined widestParts
+  parts-short w [] = omega arith
+  parts-short w (o ∷ os) = omega (arith, length-append w (space ∷ joined space (operandTexts (o ∷ os) c)), parts-short (operandText o c) os, operand-short o)
+
+  command-short : length (commandLine c) < longestCommand
+  unfolding named commandText bytes
+  command-short =
+      let r = rowFor (c .op) in
+      omega (arith, in-table (c .op) .short, parts-short (r .word) (r .parts), length-append (bytes "do") (equalsSign ∷ joined space (r .word ∷ operandTexts (r .parts) c)))
+
+pub command-lines-short : CommandLinesShort
+unfolding commandLines
+command-lines-short K t cs few near h = unlines-short commandLine (Within K t) longestCommand (command-short K t few near) cs h

@@ -6,10 +6,10 @@ use Prim.Native.Nat.{ℕ, suc, _+_, _<_, _≤_}
 use native.Mathlib.Omega.{arith}
 use lib.{Dec.eqb, ListN.length, ListN.drop, ListN.length-append, Seq.drop-append-add, Seq.take-append-seam}
 use borrow.Author.Tests.{eq-eqb, ne-eqb, lt-ltb, le-leb}
-use Rattle.model.specs.{Parsed.got, Text.free, Text.find, Text.divide, Text.split, Text.grow, Text.init, Text.lines, Text.classOf, Text.between, Text.lineFeed}
+use Rattle.model.specs.{Parsed.got, Text.free, Text.find, Text.divide, Text.split, Text.grow, Text.init, Text.lines, Text.classOf, Text.between, Text.lineFeed, Text.equalsSign}
 use Rattle.model.specs.{Text.forbiddenClass, Sheet.forbiddenLine, Sheet.closed, Accepted.Every}
 use Rattle.read_text.proofs.Lines.{split-some}
-use Rattle.model_text.specs.Text.{joined, unlines}
+use Rattle.model_text.specs.Text.{joined, unlines, named}
 use Rattle.model_text.proofs.Bytes.{Between, Spans, Free, every-append, every-insert, every-imply}
 
 -- ---- A text with no c before one
@@ -49,6 +49,19 @@ pub split-joined : (c : ℕ) (p : List ℕ) (ps : List (List ℕ)) → Free c p 
 unfolding joined
 split-joined c p [] h k = split-free c p h
 split-joined c p (q ∷ ps) h k = split-past c p (joined c (q ∷ ps)) h ∙ ap (λ (x : List (List ℕ)). p ∷ x) (split-joined c q ps (k .0) (k .1))
+
+-- ---- The bytes of texts put together
+
+pub spans-joined : (lo hi c : ℕ) → Between lo hi c → (ps : List (List ℕ)) → Every (Spans lo hi) ps → Spans lo hi (joined c ps)
+unfolding joined
+spans-joined lo hi c b [] h = tt
+spans-joined lo hi c b (p ∷ []) h = h .0
+spans-joined lo hi c b (p ∷ q ∷ ps) h = every-append (Between lo hi) p (c ∷ joined c (q ∷ ps)) (h .0) (b, spans-joined lo hi c b (q ∷ ps) (h .1))
+
+-- a line whose name and value have printed bytes only
+pub named-printed : (w v : List ℕ) → Spans 32 126 w → Spans 32 126 v → Spans 32 126 (named w v)
+unfolding named
+named-printed w v h k = every-append (Between 32 126) w (equalsSign ∷ v) h (omega arith, k)
 
 -- ---- Lines
 

@@ -1,12 +1,13 @@
--- Message lines that are put into a sheet are read as the messages that they were written for.
+-- Message lines that are put into a sheet are read as the messages that they were written for; at most how many bytes written lines have.
 use Prim.Native.Nat.{ℕ, _+_, _*_, _≤_}
 use mathlib.Core.Path.{_≡_}
 use mathlib.Core.Bool.{true}
 use mathlib.Core.List.{List, _++_}
 use lib.ListN.{length}
-use Rattle.model.specs.{Text.bytes, Limits.mostBytes, Limits.mostMessages, Job.Job, Sheet.accepted, Sheet.readSheet, Sheet.closed, Accepted.Every, Accepted.Full}
-use Rattle.model.specs.declared.Entry.{Entry}
-use Rattle.model_text.specs.Text.{messageLines}
+use Rattle.model.specs.{Text.bytes, Limits.mostBytes, Limits.mostCommands, Limits.mostMessages, Job.Job, Sheet.accepted, Sheet.readSheet, Sheet.closed}
+use Rattle.model.specs.Accepted.{Every, Full, Within}
+use Rattle.model.specs.declared.{Entry.Entry, Command.Command}
+use Rattle.model_text.specs.Text.{messageLines, commandLines}
 
 -- a job with more messages behind its own
 abbrev pub withMore : Job → List (List Entry) → Job
@@ -35,3 +36,11 @@ longestLine = 116
 
 abbrev pub LinesShort : Type 0
 LinesShort = (K : ℕ) (ms : List (List Entry)) → K ≤ 8 → Every (Full K) ms → length (messageLines ms) ≤ longestLine * length ms
+
+-- A command line has at most 21 bytes, those of `set` with the longest number: `do=`, the word, a space, a digit, a space, eleven bytes, and the line feed.
+abbrev pub longestCommand : ℕ
+longestCommand = 21
+
+abbrev pub CommandLinesShort : Type 0
+CommandLinesShort =
+    (K t : ℕ) (cs : List Command) → K ≤ 8 → t ≤ mostCommands → Every (Within K t) cs → length (commandLines cs) ≤ longestCommand * length cs
