@@ -25,7 +25,7 @@ use Rattle.model.specs.Sheet as Sheet
 
 -- ---- Choices
 
-either : {A : Type 0} (P : A → Type 0) (b : Bool) (x y : A) → P x → P y → P (cond b x y)
+pub either : {A : Type 0} (P : A → Type 0) (b : Bool) (x y : A) → P x → P y → P (cond b x y)
 either P true x y h k = h
 either P false x y h k = k
 
@@ -57,7 +57,7 @@ module _ {A : Type 0} (P : A → Type 0) where
   every-snoc [] a h p = (p, tt)
   every-snoc (x ∷ xs) a h p = (h .0, every-snoc xs a (h .1) p)
 
-  every-both : (Q R : A → Type 0) → ((x : A) → P x → Q x → R x) → (xs : List A) → Every P xs → Every Q xs → Every R xs
+  pub every-both : (Q R : A → Type 0) → ((x : A) → P x → Q x → R x) → (xs : List A) → Every P xs → Every Q xs → Every R xs
   every-both Q R f [] h k = tt
   every-both Q R f (x ∷ xs) h k = (f x (h .0) (k .0), every-both Q R f xs (h .1) (k .1))
 
@@ -255,17 +255,29 @@ plain : (l : Limits) (r : Row) (c : Command) → Own r → Fine l (r .op) (r .pa
 plain l r c own h =
     (record { v = h .v .0; w = h .w .0; k = h .k .0; t = h .t .0; n = h .n .0 }, ap (λ (x : Row). kept (x .parts) c) (ap rowFor (h .op) ∙ own) ∙ fine-kept h)
 
+by-row-ok : (l : Limits) → 1 ≤ l .keys → (r : Row) (ps : List (List ℕ)) → Own r → GotOf (λ (c : Command). (c .op ≡ r .op) × Plain l c) (byRow l (r .op) (r .parts) ps)
+unfolding byRow
+by-row-ok l some r ps own =
+    let fine = operands-ok l some (r .op) (r .parts) (r .parts) ps (blank (r .op)) (λ o i. i) (blank-ok l some (r .op) (r .parts)) in
+    let read = operands l (r .parts) ps (blank (r .op)) in
+    either (GotOf (λ (c : Command). (c .op ≡ r .op) × Plain l c)) (eqb (length (r .parts)) (length ps)) read (refused 6)
+    (imply (Fine l (r .op) (r .parts)) (λ (c : Command). (c .op ≡ r .op) × Plain l c) read (λ c h. (h .op, plain l r c own h)) fine) tt
+
+-- a command that is read by the row of a word
+pub row-command : (l : Limits) → 1 ≤ l .keys → (w : List ℕ) (r : Row) (ps : List (List ℕ)) (c : Command) → rowOf table w ≡ got r → byRow l (r .op) (r .parts) ps ≡ got c
+    → (c .op ≡ r .op) × (Within (l .keys) (l .target) c × Bare c)
+row-command l keyed w r ps c e f =
+    subst (GotOf (λ (c : Command). (c .op ≡ r .op) × Plain l c)) f (by-row-ok l keyed r ps (subst (GotOf Own) e (row-ok Own table w own-rows)))
+
 command-ok : (l : Limits) → 1 ≤ l .keys → (s : List ℕ) → GotOf (Plain l) (readCommand l s)
-unfolding readCommand words byRow
+unfolding readCommand words
 command-ok l some s = go (split space s)
   where
     go : (ps : List (List ℕ)) → GotOf (Plain l) (words l ps)
     go [] = tt
     go (w ∷ ps) =
         bind Own (Plain l) (rowOf table w) _ (row-ok Own table w own-rows) (λ r own.
-        let fine = operands-ok l some (r .op) (r .parts) (r .parts) ps (blank (r .op)) (λ o i. i) (blank-ok l some (r .op) (r .parts)) in
-        let read = operands l (r .parts) ps (blank (r .op)) in
-        either (GotOf (Plain l)) (eqb (length (r .parts)) (length ps)) read (refused 6) (imply (Fine l (r .op) (r .parts)) (Plain l) read (λ c h. plain l r c own h) fine) tt)
+        imply (λ (c : Command). (c .op ≡ r .op) × Plain l c) (Plain l) (byRow l (r .op) (r .parts) ps) (λ c h. h .1) (by-row-ok l some r ps own))
 
 -- ---- Letters
 

@@ -13,6 +13,7 @@ pub mod Lockstep
 pub mod Line
 pub mod Secrecy
 pub mod Accepted
+pub mod Refused
 pub mod Witness
 pub mod CallKinds
 pub mod Clamped

@@ -1,18 +1,17 @@
 -- The refusals of an export, with their rows, and that they depend on it alone.
 use mathlib.Core.Path.{_≡_, refl, ap, _∙_, subst}
-use mathlib.Core.Bool.{Bool, true, false}
 use mathlib.Core.Logic.{inl, inr}
 use mathlib.Core.List.{List, [], _∷_}
 use Prim.Native.Nat.{ℕ, _+_, _<_, _≤_}
 use native.Mathlib.Omega.{arith}
 use lib.{Dec.eqb, Dec.leb, Dec.ltb, ListN.length, ListN.set, ListN.replicate, ListN.length-append}
 use borrow.Author.Tests.{ltb-true, ltb-false}
-use Rattle.model.specs.{Limits.mostMessages, Parsed.Parsed, Parsed.got, Parsed.need, Parsed._>>=_, Parsed._>>_, Number.upTo, Number.number}
+use Rattle.model.specs.{Limits.mostMessages, Parsed.Parsed, Parsed.got, Number.upTo, Number.number}
 use Rattle.model.specs.{Phase.oneMore, Written.Written, Written.write}
 use Rattle.model.specs.Parsed as Parsed
 use Rattle.model.specs.declared.Entry.{Entry}
 use Rattle.model.specs.declared.Entry.the-variants.{Absent}
-use Rattle.model.proofs.Written.{write-refused}
+use Rattle.model.proofs.{Written.write-refused, Refused.Refuses, Refused.bind-refuses, Refused.need-refuses}
 use Rattle.model_log.specs.Log.{Row, ended, unfinished, rows, clean, fields, orBad, keyCount, greatestKey, keyNumbers, header, field, entries, messageRow}
 use Rattle.model_log.specs.Log.{Logged, messages, refused, atRow, further, readRows, readLog, draft, writeLog}
 use Rattle.model_log.specs.Claims.{KnownRefusal, OnlyThese, ExportAlone}
@@ -20,20 +19,7 @@ use Rattle.model_log.proofs.Passed.{more-got}
 
 -- ---- The refusals of a piece of text
 
--- a fact of the refusal's number, if there is one
-abbrev Refuses : {A : Type 0} → (ℕ → Type 0) → Parsed A → Type 0
-Refuses P (got a) = Unit {0}
-Refuses P (Parsed.refused n) = P n
-
 module _ (P : ℕ → Type 0) where
-  bind-refuses : {A B : Type 0} (r : Parsed A) (f : A → Parsed B) → Refuses P r → ((a : A) → Refuses P (f a)) → Refuses P (r >>= f)
-  bind-refuses (got a) f h k = k a
-  bind-refuses (Parsed.refused n) f h k = h
-
-  need-refuses : {A : Type 0} (t : Bool) (n : ℕ) (r : Parsed A) → (t ≡ false → P n) → (t ≡ true → Refuses P r) → Refuses P (need t n >> r)
-  need-refuses true n r h k = k refl
-  need-refuses false n r h k = h refl
-
   bad-refuses : {A : Type 0} (r : Parsed A) → P 42 → Refuses P (orBad r)
   bad-refuses (got a) h = tt
   bad-refuses (Parsed.refused n) h = h
@@ -43,44 +29,44 @@ module _ (P : ℕ → Type 0) where
       → Refuses P (oneMore limit f xs v)
   unfolding oneMore
   more-refuses limit f xs v h k =
-      need-refuses (ltb (length xs) limit) 8 _ (λ e. h (ltb-false (length xs) limit e))
-      (λ e. bind-refuses (f v) _ (k (ltb-true (length xs) limit e)) (λ a. tt))
+      need-refuses P (ltb (length xs) limit) 8 _ (λ e. h (ltb-false (length xs) limit e))
+      (λ e. bind-refuses P (f v) _ (k (ltb-true (length xs) limit e)) (λ a. tt))
 
   -- ---- The rows
 
   fields-refuse : (r : Row) → P 41 → Refuses P (fields r)
   unfolding fields
   fields-refuse unfinished h = h
-  fields-refuse (ended t) h = need-refuses (clean t) 41 _ (λ e. h) (λ e. tt)
+  fields-refuse (ended t) h = need-refuses P (clean t) 41 _ (λ e. h) (λ e. tt)
 
   keys-refuse : (next : ℕ) (fs : List (List ℕ)) → P 42 → Refuses P (keyNumbers next fs)
   unfolding keyNumbers
   keys-refuse next [] h = tt
   keys-refuse next (f ∷ fs) h =
-      bind-refuses (orBad (upTo greatestKey f)) _ (bad-refuses (upTo greatestKey f) h) (λ k.
-      need-refuses (leb next k) 42 _ (λ e. h) (λ e.
-      bind-refuses (keyNumbers (k + 1) fs) _ (keys-refuse (k + 1) fs h) (λ ks. tt)))
+      bind-refuses P (orBad (upTo greatestKey f)) _ (bad-refuses (upTo greatestKey f) h) (λ k.
+      need-refuses P (leb next k) 42 _ (λ e. h) (λ e.
+      bind-refuses P (keyNumbers (k + 1) fs) _ (keys-refuse (k + 1) fs h) (λ ks. tt)))
 
   header-refuses : (r : Row) → P 41 → P 42 → Refuses P (header r)
   unfolding header
-  header-refuses r g h = bind-refuses (fields r) (keyNumbers 0) (fields-refuse r g) (λ fs. keys-refuse 0 fs h)
+  header-refuses r g h = bind-refuses P (fields r) (keyNumbers 0) (fields-refuse r g) (λ fs. keys-refuse 0 fs h)
 
   field-refuses : (f : List ℕ) → P 42 → Refuses P (field f)
   unfolding field
   field-refuses [] h = tt
-  field-refuses (b ∷ f) h = bind-refuses (orBad (number (b ∷ f))) _ (bad-refuses (number (b ∷ f)) h) (λ z. tt)
+  field-refuses (b ∷ f) h = bind-refuses P (orBad (number (b ∷ f))) _ (bad-refuses (number (b ∷ f)) h) (λ z. tt)
 
   entries-refuse : (ks : List ℕ) (fs : List (List ℕ)) (es : List Entry) → P 42 → Refuses P (entries ks fs es)
   unfolding entries
   entries-refuse [] fs es h = tt
   entries-refuse (k ∷ ks) [] es h = tt
-  entries-refuse (k ∷ ks) (f ∷ fs) es h = bind-refuses (field f) _ (field-refuses f h) (λ e. entries-refuse ks fs (set es k e) h)
+  entries-refuse (k ∷ ks) (f ∷ fs) es h = bind-refuses P (field f) _ (field-refuses f h) (λ e. entries-refuse ks fs (set es k e) h)
 
   row-refuses : (ks : List ℕ) (r : Row) → P 41 → P 42 → Refuses P (messageRow ks r)
   unfolding messageRow
   row-refuses ks r g h =
-      bind-refuses (fields r) _ (fields-refuse r g) (λ fs.
-      need-refuses (eqb (length fs) (length ks)) 41 _ (λ e. g) (λ e. entries-refuse ks fs (replicate keyCount Absent) h))
+      bind-refuses P (fields r) _ (fields-refuse r g) (λ fs.
+      need-refuses P (eqb (length fs) (length ks)) 41 _ (λ e. g) (λ e. entries-refuse ks fs (replicate keyCount Absent) h))
 
 -- ---- The export
 

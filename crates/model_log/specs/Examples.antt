@@ -1,42 +1,16 @@
 -- Exports with what they give: the number, the row, the bytes written, and the text.
-use Prim.Native.Nat.{ℕ, zero, suc}
+use Prim.Native.Nat.{ℕ}
 use Prim.Native.String.{String}
-use mathlib.Core.Path.{_≡_}
 use mathlib.Core.List.{List, [], _∷_, _++_}
-use lib.ListN.{replicate, take}
-use Rattle.model.specs.{Text.bytes, Written.Written, Written.textNumbers}
+use Rattle.model.specs.Text.{bytes}
+use Rattle.model_text.specs.Examples.{Example, example, times}
 use Rattle.model_log.specs.Log.{writeLog}
 
--- An example: an export, the bytes lent, the numbers, and the text written
-pub record Example : Type 0 where
-  pub log : List ℕ
-  pub lent : ℕ
-  pub numbers : List ℕ
-  pub text : String
-
 abbrev pub gives : List ℕ → ℕ → ℕ → ℕ → ℕ → String → Example
-gives s lent number row count t = record { log = s; lent = lent; numbers = number ∷ row ∷ count ∷ []; text = t }
+gives s lent number row count t = example (writeLog s) lent number row count (bytes t)
 
 abbrev pub refuses : String → ℕ → ℕ → Example
 refuses s number row = gives (bytes s) 40 number row 0 ""
-
--- as much of the memory as was written
-abbrev pub there : Written → List ℕ
-there w = take (w .answer .bytes) (w .memory)
-
-abbrev pub Holds : Example → Type 0
-Holds e =
-    let w = writeLog (e .log) (replicate (e .lent) 0) in
-    (textNumbers (w .answer) ≡ e .numbers) × (there w ≡ bytes (e .text))
-
-abbrev pub AllHold : List Example → Type 0
-AllHold [] = Unit {0}
-AllHold (e ∷ es) = Holds e × AllHold es
-
--- a row so often
-unfoldable pub times : ℕ → List ℕ → List ℕ
-times zero r = []
-times (suc n) r = r ++ times n r
 
 -- the keys' row 0, and so many rows of one 1
 abbrev pub ones : ℕ → List ℕ

@@ -14,10 +14,14 @@ module _ {A : Type 0} (P : A → Type 0) where
   every-append [] ys h k = k
   every-append (x ∷ xs) ys h k = (h .0, every-append xs ys (h .1) k)
 
-  -- elements between others
-  pub every-insert : (xs ys zs : List A) → Every P ys → Every P (xs ++ zs) → Every P (xs ++ (ys ++ zs))
-  every-insert [] ys zs h k = every-append ys zs h k
-  every-insert (x ∷ xs) ys zs h k = (k .0, every-insert xs ys zs h (k .1))
+  pub every-last : (xs ys : List A) → Every P (xs ++ ys) → Every P ys
+  every-last [] ys h = h
+  every-last (x ∷ xs) ys h = every-last xs ys (h .1)
+
+  -- elements between others, in place of ws
+  pub every-instead : (xs ws ys zs : List A) → Every P ys → Every P (xs ++ (ws ++ zs)) → Every P (xs ++ (ys ++ zs))
+  every-instead [] ws ys zs h k = every-append ys zs h (every-last ws zs k)
+  every-instead (x ∷ xs) ws ys zs h k = (k .0, every-instead xs ws ys zs h (k .1))
 
   pub every-imply : (Q : A → Type 0) → ((x : A) → P x → Q x) → (xs : List A) → Every P xs → Every Q xs
   every-imply Q f [] h = tt

@@ -7,14 +7,14 @@ use Prim.Native.Nat.{ℕ, _+_, _≤_}
 use native.Mathlib.Omega.{arith}
 use lib.ListN.{length}
 use Rattle.model.specs.{Limits.mostMessages, Text.bytes, Text.free, Text.same, Phase.Phase, Phase.got, Phase.many, Phase.oneMore, Job.Job, Form.formOf}
-use Rattle.model.specs.{Head.readFirst, Head.sheetLine, Head.readKeys, Head.keysLine, Head.readSecrets, Head.secretLine, Head.allOpen, Program.readCommands}
-use Rattle.model.specs.{Command.readCommand, Command.limits, Messages.readMessages, Messages.messageLine as readMessage}
+use Rattle.model.specs.{Program.readCommands, Command.readCommand, Command.limits, Messages.readMessages, Messages.messageLine as readMessage}
 use Rattle.model.specs.{Sheet.accepted, Sheet.next, Sheet.readBody, Sheet.readLines, Accepted.Every, Accepted.Full}
 use Rattle.model.specs.declared.{Form.Form, Key.Key, Entry.Entry, Command.Command}
 use Rattle.model_text.specs.{Text.named, Text.messageText, Text.messageLine, Pasted.withMore}
-use Rattle.model_text.proofs.{Numbers.Small, Messages.message-read, Phases.Other, Phases.other-line, Phases.Through, Phases.one-through, Phases.many-through}
+use Rattle.model_text.proofs.{Numbers.Small, Messages.message-read, Phases.Other, Phases.other-line, Phases.Through, Phases.many-through}
 use Rattle.model_text.proofs.{Phases.some-through, Phases.many-whole, Phases.many-written}
-use Rattle.model_text.proofs.Readings.{next-through, secrets-keep, afterMessages, messages-got}
+use Rattle.model_text.proofs.Readings.{next-through, afterMessages, messages-got, ended-more}
+use Rattle.model_text.proofs.Opening.{Beyond, opening-through}
 
 abbrev pub written : List (List Entry) → List (List ℕ)
 written ms = map messageLine ms
@@ -42,21 +42,18 @@ module _ (v : List ℕ) (us : List (List ℕ)) (ms : List (List Entry)) where
   abbrev new : List (List ℕ)
   new = written ms ++ turnsThen v us
 
-  first-through : (n : ℕ) → Through (readFirst n) old new
-  unfolding readFirst bytes same
-  first-through n = one-through (bytes "sheet") sheetLine n old new (turns-other (bytes "sheet") v us refl)
-
-  keys-through : (f : Form) (n : ℕ) → Through (readKeys f n) old new
-  unfolding readKeys bytes same
-  keys-through f n = one-through (bytes "keys") (keysLine f) n old new (turns-other (bytes "keys") v us refl)
-
-  secret-other : Other (bytes "secret") old
+  old-beyond : Beyond old
   unfolding bytes same
-  secret-other = turns-other (bytes "secret") v us refl
+  old-beyond = record { sheet = turns-other (bytes "sheet") v us refl; keys = turns-other (bytes "keys") v us refl; secret = turns-other (bytes "secret") v us refl }
 
-  secrets-through : (K n : ℕ) → Through (readSecrets K n) old new
-  unfolding readSecrets bytes same
-  secrets-through K n = many-through (bytes "secret") (secretLine K) n (allOpen K) old new secret-other (written-other (bytes "secret") v ms us refl refl)
+  new-beyond : Beyond new
+  unfolding bytes same
+  new-beyond =
+      record {
+        sheet = written-other (bytes "sheet") v ms us refl refl;
+        keys = written-other (bytes "keys") v ms us refl refl;
+        secret = written-other (bytes "secret") v ms us refl refl;
+      }
 
   commands-through : (f : Form) (K n : ℕ) → Through (readCommands f K n) old new
   unfolding readCommands bytes same
@@ -89,23 +86,21 @@ module _ (v : List ℕ) (us : List (List ℕ)) (ms : List (List Entry)) where
         let b = g .0 in
         let m = g .1 in
         let h = g .4 in
-        let k : length (j .keys) ≡ K = ap length (h .keys) ∙ q in
-        let l = ap length (h .messages) in
+        let k : length (j .keys) ≡ K = ap (λ (x : Job). length (x .keys)) (sym (h .job)) ∙ q in
+        let l : length (j .messages) ≡ length b = ap (λ (x : Job). length (x .messages)) (sym (h .job)) in
         let read = oneMore (f .messages) (readMessage K) in
         let p = many-whole (bytes "msg") read n m [] b ls (named (bytes "turns") v) (h .line) us msg-other (g .3 ∙ ap (got b m) (h .only)) in
         let w = written-read f K m b (omega arith) (subst (λ (x : ℕ). Every (Full x) ms) k full) (omega arith) in
         ap (λ (x : Phase (List (List Entry))). next x (afterMessages f ks top cs)) (p .1 new ∙ w .1)
         ∙ ap (afterMessages f ks top cs (b ++ ms) (w .0)) (p .0 ∙ sym (h .only))
-        ∙ h .again (w .0) ms
+        ∙ ended-more f ks top cs b (g .2) j h (w .0) ms
 
     pub lines-pasted : (ls : List (List ℕ)) → length (j .messages) + length ms ≤ mostMessages
         → readLines (ls ++ old) ≡ accepted j → readLines (ls ++ new) ≡ accepted (withMore j ms)
-    unfolding readLines readBody formOf
+    unfolding readBody formOf
     lines-pasted ls most e =
         let j′ = withMore j ms in
-        next-through _ (readFirst 1) old new ls j j′ (first-through 1) e (λ number n₁ ls₁ q₁ e₁.
+        opening-through old new old-beyond new-beyond ls j j′ e (λ number K top ks ls₁ q z₁ e₁.
         let f = formOf number in
-        next-through _ (readKeys f n₁) old new ls₁ j j′ (keys-through f n₁) e₁ (λ K n₂ ls₂ q₂ e₂.
-        next-through _ (readSecrets K n₂) old new ls₂ j j′ (secrets-through K n₂) e₂ (λ ks top ls₃ q₃ e₃.
-        next-through _ (readCommands f K top) old new ls₃ j j′ (commands-through f K top) e₃ (λ cs n₄ ls₄ q₄ e₄.
-        messages-pasted f (ks .at) K top cs n₄ ls₄ (secrets-keep K n₂ top ls₂ old (ls₃ ++ old) ks secret-other q₃) most e₄))))
+        next-through _ (readCommands f K top) old new ls₁ j j′ (commands-through f K top) e₁ (λ cs n₂ ls₂ z₂ q₂ e₂.
+        messages-pasted f ks K top cs n₂ ls₂ q most e₂))

@@ -1,17 +1,17 @@
 -- Message lines that are put into a sheet are read as the messages that they were written for.
 use mathlib.Core.Path.{_≡_, refl, sym, ap, _∙_, subst}
 use mathlib.Core.Bool.{true}
-use mathlib.Core.List.{List, _∷_, _++_, append-assoc}
+use mathlib.Core.List.{List, [], _∷_, _++_}
 use Prim.Native.Nat.{ℕ, _+_, _≤_}
 use native.Mathlib.Omega.{arith}
 use lib.ListN.{length}
-use Rattle.model.specs.{Limits.mostMessages, Text.bytes, Text.free, Text.lines, Text.lineFeed, Job.Job, Sheet.closed, Sheet.readLines, Accepted.Every, Accepted.Full}
+use Rattle.model.specs.{Limits.mostMessages, Text.bytes, Text.free, Text.lines, Job.Job, Sheet.closed, Sheet.readLines, Accepted.Every, Accepted.Full}
 use Rattle.model.specs.declared.Entry.{Entry}
 use Rattle.model.proofs.Accepted.{accepted-sound}
 use Rattle.model_text.specs.{Text.named, Text.messageLine, Text.messageLines, Pasted.withMore, Pasted.Pasted}
-use Rattle.model_text.proofs.{Bytes.Spans, Bytes.Free, Bytes.spans-free, Bytes.every-made, Numbers.Small, Messages.line-printed}
-use Rattle.model_text.proofs.{Texts.lines-unlines, Texts.lines-closed, Texts.first-line, Texts.closed-behind, Texts.lines-allowed}
-use Rattle.model_text.proofs.{Readings.Passes, Readings.accepted-passes, Readings.passes-accepted, Lines.written, Lines.lines-pasted}
+use Rattle.model_text.proofs.{Bytes.Spans, Bytes.every-made, Numbers.Small, Messages.line-printed}
+use Rattle.model_text.proofs.{Texts.lines-closed, Texts.first-line, Texts.closed-behind}
+use Rattle.model_text.proofs.{Readings.Passes, Readings.accepted-passes, Readings.passes-accepted, Readings.passes-instead, Lines.written, Lines.lines-pasted}
 
 -- what a sheet ends with
 abbrev lastLine : List ℕ → List ℕ
@@ -25,26 +25,18 @@ lines-last : (letters : List ℕ) → closed (lastLine letters) ≡ true → (v 
 unfolding bytes named free
 lines-last letters h = first-line (bytes "turns=") letters refl h
 
-line-free : (es : List Entry) → Free lineFeed (messageLine es)
-line-free es = spans-free 32 126 lineFeed (λ h. omega (arith, h .0)) (messageLine es) (line-printed es)
-
 module _ (head letters : List ℕ) (ends : closed head ≡ true) (j : Job) (ms : List (List Entry)) where
   passes-pasted : Small (length (j .keys)) → Every (Full (length (j .keys))) ms → length (j .messages) + length ms ≤ mostMessages
       → Passes (head ++ lastLine letters) j → Passes (head ++ (messageLines ms ++ lastLine letters)) (withMore j ms)
   unfolding messageLines
   passes-pasted few full most p =
-      let text = messageLines ms in
       let tail = lastLine letters in
       let c : closed tail ≡ true = sym (closed-last head letters) ∙ p .ends in
       let t = lines-last letters c in
-      let inside = lines-unlines (written ms) tail (every-made messageLine (Free lineFeed) line-free ms) ∙ ap (λ (x : List (List ℕ)). written ms ++ x) (t .2) in
       let old = lines-closed head ends tail ∙ ap (λ (x : List (List ℕ)). lines head ++ x) (t .2) in
-      let new = lines-closed head ends (text ++ tail) ∙ ap (λ (x : List (List ℕ)). lines head ++ x) inside in
-      record {
-        allowed = lines-allowed head (written ms) tail (every-made messageLine (Spans 32 126) line-printed ms) (p .allowed);
-        ends = ap closed (sym (append-assoc head text tail)) ∙ closed-last (head ++ text) letters ∙ c;
-        reads = ap readLines new ∙ lines-pasted (t .0) (t .1) ms j few full (lines head) most (ap readLines (sym old) ∙ p .reads);
-      }
+      passes-instead head [] tail (written ms) j (withMore j ms) ends c (every-made messageLine (Spans 32 126) line-printed ms) p
+      (ap (λ (x : List (List ℕ)). readLines (lines head ++ (written ms ++ x))) (t .2)
+      ∙ lines-pasted (t .0) (t .1) ms j few full (lines head) most (ap readLines (sym old) ∙ p .reads))
 
 pub pasted : Pasted
 pasted head tail j cut ms full most short =

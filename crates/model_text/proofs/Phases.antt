@@ -8,6 +8,7 @@ use lib.{ListN.length, ListN.length-append, Seq.append-snoc}
 use Rattle.model.specs.{Parsed.Parsed, Parsed.need, Parsed._>>_, Parsed._>>=_, Text.same, Text.equalsSign, Phase.Phase, Phase.got, Phase.refused, Phase.after}
 use Rattle.model.specs.{Phase.numbered, Phase.one, Phase.onward, Phase.eachLine, Phase.many, Phase.oneMore, Phase.some, Accepted.Every}
 use Rattle.model.specs.Parsed as Parsed
+use Rattle.model.proofs.Parsed.{never as never-got}
 use Rattle.read_text.proofs.Lines.{same-refl, more-ok}
 use Rattle.model_text.specs.Text.{named}
 use Rattle.model_text.proofs.{Bytes.Free, Texts.divide-past}
@@ -20,6 +21,10 @@ after-line w u v h = rw (divide-past equalsSign 3 u v h)
 
 after-own : (w v : List ℕ) → Free equalsSign w → after w (named w v) ≡ Parsed.got v
 after-own w v h = after-line w w v h ∙ ap (λ (t : Bool). need t 3 >> Parsed.got v) (same-refl w)
+
+-- a line of the name w
+abbrev pub Named : List ℕ → List ℕ → Type 0
+Named w l = (v : List ℕ) × (l ≡ named w v)
 
 -- no line of the name w comes next
 abbrev pub Other : List ℕ → List (List ℕ) → Type 0
@@ -38,11 +43,15 @@ other-append w (l ∷ ls) ks h k = h
 pub never : {A B : Type 0} {r n m : ℕ} {a : A} {ls : List (List ℕ)} → _≡_ {A = Phase A} (refused r n) (got a m ls) → B
 never e = absurd (let z : _≡_ {A = ℕ} 0 1 = cc in omega arith)
 
--- what read takes from the lines before us it takes from the same lines before vs, and the same are left
+-- ks are the last of ls
+abbrev pub Last : List (List ℕ) → List (List ℕ) → Type 0
+Last ks ls = (ps : List (List ℕ)) × (ls ≡ ps ++ ks)
+
+-- what read takes from the lines before us it takes from the same lines before vs, and the same of them are left
 abbrev pub Through : {A : Type 0} → (List (List ℕ) → Phase A) → List (List ℕ) → List (List ℕ) → Type 0
 Through {A} read us vs =
     (ls : List (List ℕ)) (a : A) (n : ℕ) (rest : List (List ℕ)) → read (ls ++ us) ≡ got a n rest
-    → (ks : List (List ℕ)) × (rest ≡ ks ++ us) × (read (ls ++ vs) ≡ got a n (ks ++ vs))
+    → (ks : List (List ℕ)) × Last ks ls × (rest ≡ ks ++ us) × (read (ls ++ vs) ≡ got a n (ks ++ vs))
 
 -- ---- Many lines
 
@@ -62,6 +71,24 @@ module _ {A : Type 0} (w : List ℕ) (f : A → List ℕ → Parsed A) where
   leads-other (none o) = o
   leads-other (line p q h) = leads-other h
 
+  leads-last : {n m : ℕ} {a b : A} {ls ks : List (List ℕ)} → Leads n a ls m b ks → Last ks ls
+  leads-last (none o) = ([], refl)
+  leads-last (line {l = l} p q h) = let r = leads-last h in (l ∷ r .0, ap (λ (x : List (List ℕ)). l ∷ x) (r .1))
+
+  -- from another number on
+  leads-again : {n m : ℕ} {a b : A} {ls ks : List (List ℕ)} → Leads n a ls m b ks → (k : ℕ) → (i : ℕ) × Leads k a ls i b ks
+  leads-again (none o) k = (k, none o)
+  leads-again (line p q h) k = let r = leads-again h (k + 1) in (r .0, line p q (r .1))
+
+  -- lines of the name w are all taken
+  leads-all : {n m : ℕ} {a b : A} {ls ks : List (List ℕ)} → Free equalsSign w → Leads n a ls m b ks → Every (Named w) ls → ks ≡ []
+  leads-all {ks = ks} free (none o) e = go ks o e
+    where
+      go : (ks : List (List ℕ)) → Other w ks → Every (Named w) ks → ks ≡ []
+      go [] o e = refl
+      go (k ∷ ks) o e = never-got (sym (o .1) ∙ ap (after w) (e .0 .1) ∙ after-own w (e .0 .0) free)
+  leads-all free (line p q h) e = leads-all free h (e .1)
+
   leads-keep : (P : A → Type 0) → ((a b : A) (v : List ℕ) → f a v ≡ Parsed.got b → P a → P b)
       → {n m : ℕ} {a b : A} {ls ks : List (List ℕ)} → Leads n a ls m b ks → P a → P b
   leads-keep P step (none o) p = p
@@ -71,7 +98,7 @@ module _ {A : Type 0} (w : List ℕ) (f : A → List ℕ → Parsed A) where
   unfolding many
   many-next n a b v ls h e = rw (after-own w v h, e)
 
-  many-other : (n : ℕ) (a : A) (ls : List (List ℕ)) → Other w ls → many w f n a ls ≡ got a n ls
+  pub many-other : (n : ℕ) (a : A) (ls : List (List ℕ)) → Other w ls → many w f n a ls ≡ got a n ls
   unfolding many
   many-other n a [] o = refl
   many-other n a (l ∷ ls) o = rw (o .1)
@@ -107,7 +134,7 @@ module _ {A : Type 0} (w : List ℕ) (f : A → List ℕ → Parsed A) where
   pub many-through : (n : ℕ) (a : A) (us vs : List (List ℕ)) → Other w us → Other w vs → Through (many w f n a) us vs
   many-through n a us vs o p ls b m rest e =
       let h = many-led n m a b ls us rest o e in
-      (h .0, h .2, leads-read (h .1) vs ∙ many-other m b (h .0 ++ vs) (other-append w (h .0) vs (leads-other (h .1)) p))
+      (h .0, leads-last (h .1), h .2, leads-read (h .1) vs ∙ many-other m b (h .0 ++ vs) (other-append w (h .0) vs (leads-other (h .1)) p))
 
   -- where one line is left, and one follows, none of those before is left
   pub many-whole : (n m : ℕ) (a b : A) (ls : List (List ℕ)) (u l : List ℕ) (us : List (List ℕ)) → Other w (u ∷ us) → many w f n a (ls ++ (u ∷ us)) ≡ got b m (l ∷ [])
@@ -117,6 +144,21 @@ module _ {A : Type 0} (w : List ℕ) (f : A → List ℕ → Parsed A) where
       go : (ks : List (List ℕ)) → Leads n a ls m b ks → l ∷ [] ≡ ks ++ (u ∷ us) → (u ∷ us ≡ l ∷ []) × ((vs : List (List ℕ)) → many w f n a (ls ++ vs) ≡ many w f m b vs)
       go [] h q = (sym q, leads-read h)
       go (k ∷ ks) h q = absurd (let z = length-append ks (u ∷ us) in omega (arith, ap length q))
+
+  -- all lines of the name w are taken, where no such line follows
+  pub many-all : (n m : ℕ) (a b : A) (ls us rest : List (List ℕ)) → Free equalsSign w → Every (Named w) ls → Other w us → many w f n a (ls ++ us) ≡ got b m rest
+      → rest ≡ us
+  many-all n m a b ls us rest free e o g =
+      let h = many-led n m a b ls us rest o g in
+      h .2 ∙ ap (λ (x : List (List ℕ)). x ++ us) (leads-all free (h .1) e)
+
+  -- the number of the first line makes no difference
+  pub many-again : (n m : ℕ) (a b : A) (ls rest : List (List ℕ)) → many w f n a ls ≡ got b m rest → (k : ℕ) → (i : ℕ) × (many w f k a ls ≡ got b i rest)
+  many-again n m a b ls rest g k =
+      let h = many-led n m a b ls [] rest tt (ap (many w f n a) (append-nil ls) ∙ g) in
+      let r = leads-again (h .1) k in
+      let o = other-append w (h .0) [] (leads-other (h .1)) tt in
+      (r .0, ap (many w f k a) (sym (append-nil ls)) ∙ leads-read (r .1) [] ∙ many-other (r .0) b (h .0 ++ []) o ∙ ap (got b (r .0)) (sym (h .2)))
 
   -- what every line keeps, the phase keeps
   pub many-keeps : (P : A → Type 0) → ((a b : A) (v : List ℕ) → f a v ≡ Parsed.got b → P a → P b) → (n m : ℕ) (a b : A) (ls us rest : List (List ℕ)) → Other w us
@@ -145,11 +187,12 @@ module _ {A : Type 0} where
   one-through w f n (u ∷ us) vs o [] a m rest e = never (rw (o .1) at e)
   one-through w f n us vs o (l ∷ ls) a m rest e = go (after w l >>= f) e
     where
-      go : (r : Parsed A) → numbered n (ls ++ us) r ≡ got a m rest → (ks : List (List ℕ)) × (rest ≡ ks ++ us) × (numbered n (ls ++ vs) r ≡ got a m (ks ++ vs))
-      go (Parsed.got b) e = (ls, cc, cc)
+      go : (r : Parsed A) → numbered n (ls ++ us) r ≡ got a m rest
+          → (ks : List (List ℕ)) × Last ks (l ∷ ls) × (rest ≡ ks ++ us) × (numbered n (ls ++ vs) r ≡ got a m (ks ++ vs))
+      go (Parsed.got b) e = (ls, (l ∷ [], refl), cc, cc)
       go (Parsed.refused r) e = never e
 
-  some-got : (x : Phase (List A)) (cs : List A) (n : ℕ) (ls : List (List ℕ)) → some x ≡ got cs n ls
+  pub some-got : (x : Phase (List A)) (cs : List A) (n : ℕ) (ls : List (List ℕ)) → some x ≡ got cs n ls
       → (x ≡ got cs n ls) × ((us : List (List ℕ)) → some (got cs n us) ≡ got cs n us)
   some-got (got [] m ks) cs n ls e = never e
   some-got (got (d ∷ ds) m ks) cs n ls e =
@@ -161,4 +204,4 @@ module _ {A : Type 0} where
   some-through read us vs h ls cs n rest e =
       let g = some-got (read (ls ++ us)) cs n rest e in
       let r = h ls cs n rest (g .0) in
-      (r .0, r .1, ap some (r .2) ∙ g .1 (r .0 ++ vs))
+      (r .0, r .1, r .2, ap some (r .3) ∙ g .1 (r .0 ++ vs))

@@ -1,16 +1,17 @@
 -- Texts put together are taken apart again: `joined` and `split`, `divide`, the lines of two texts, and what is tested of a whole sheet.
 use mathlib.Core.Path.{_≡_, refl, sym, ap, _∙_}
 use mathlib.Core.Bool.{Bool, true, false, cond, true≢false}
-use mathlib.Core.List.{List, [], _∷_, _++_, append-assoc, append-nil}
+use mathlib.Core.List.{List, [], _∷_, _++_, map, append-assoc, append-nil}
 use Prim.Native.Nat.{ℕ, suc, _+_, _<_, _≤_}
-use native.Mathlib.Omega.{arith}
-use lib.{Dec.eqb, ListN.length, ListN.drop, ListN.length-append, Seq.drop-append-add, Seq.take-append-seam}
+use native.Mathlib.{Omega.arith, Numerals.add-one}
+use lib.{Dec.eqb, ListN.length, ListN.getD, ListN.drop, ListN.length-append, ListN.drop-of-length-le, Seq.drop-append-add, Seq.take-append-seam}
+use lib.Seq.{append-snoc, drop-cons}
 use borrow.Author.Tests.{eq-eqb, ne-eqb, lt-ltb, le-leb}
 use Rattle.model.specs.{Parsed.got, Text.free, Text.find, Text.divide, Text.split, Text.grow, Text.init, Text.lines, Text.classOf, Text.between, Text.lineFeed, Text.equalsSign}
 use Rattle.model.specs.{Text.forbiddenClass, Sheet.forbiddenLine, Sheet.closed, Accepted.Every}
 use Rattle.read_text.proofs.Lines.{split-some}
-use Rattle.model_text.specs.Text.{joined, unlines, named}
-use Rattle.model_text.proofs.Bytes.{Between, Spans, Free, every-append, every-insert, every-imply}
+use Rattle.model_text.specs.Text.{joined, prefixed, unlines, named}
+use Rattle.model_text.proofs.Bytes.{Between, Spans, Free, every-append, every-instead, every-imply}
 
 -- ---- A text with no c before one
 
@@ -49,6 +50,12 @@ pub split-joined : (c : ℕ) (p : List ℕ) (ps : List (List ℕ)) → Free c p 
 unfolding joined
 split-joined c p [] h k = split-free c p h
 split-joined c p (q ∷ ps) h k = split-past c p (joined c (q ∷ ps)) h ∙ ap (λ (x : List (List ℕ)). p ∷ x) (split-joined c q ps (k .0) (k .1))
+
+-- the first text, and the others with a byte before each
+pub joined-prefixed : (c : ℕ) (p : List ℕ) (ps : List (List ℕ)) → joined c (p ∷ ps) ≡ p ++ prefixed c ps
+unfolding joined prefixed
+joined-prefixed c p [] = sym (append-nil p)
+joined-prefixed c p (q ∷ ps) = ap (λ (t : List ℕ). p ++ (c ∷ t)) (joined-prefixed c q ps)
 
 -- ---- The bytes of texts put together
 
@@ -104,9 +111,19 @@ closed-written (b ∷ c ∷ s) h = let i = closed-written (c ∷ s) h in go (eqb
 pub lines-unlines : (ls : List (List ℕ)) (t : List ℕ) → Every (Free lineFeed) ls → lines (unlines ls ++ t) ≡ ls ++ lines t
 lines-unlines ls t h = lines-written ls (unlines ls) (unlines-written ls h) t
 
+-- the line of one thing, and those of the things behind it
+module _ {A : Type 0} (g : A → List ℕ) (xs : List A) (i : ℕ) where
+  pub unlines-more : (d : A) → i < length xs → unlines (map g (drop i xs)) ≡ unlines (g (getD xs i d) ∷ []) ++ unlines (map g (drop (i + 1) xs))
+  unfolding unlines
+  unlines-more d h = rw (add-one i, drop-cons xs i d h) (sym (append-snoc (g (getD xs i d)) lineFeed (unlines (map g (drop (suc i) xs)))))
+
+  pub unlines-end : length xs ≤ i → unlines (map g (drop i xs)) ≡ []
+  unfolding unlines
+  unlines-end h = rw (drop-of-length-le xs h)
+
 module _ (s : List ℕ) (h : closed s ≡ true) where
   -- a text that ends with a line feed has a line, and its lines stand before those of what is behind it
-  closed-lines : (l : List ℕ) × (ls : List (List ℕ)) × (lines s ≡ l ∷ ls) × ((t : List ℕ) → lines (s ++ t) ≡ l ∷ (ls ++ lines t))
+  pub closed-lines : (l : List ℕ) × (ls : List (List ℕ)) × (lines s ≡ l ∷ ls) × ((t : List ℕ) → lines (s ++ t) ≡ l ∷ (ls ++ lines t))
   unfolding lines init split
   closed-lines =
       let k = closed-written s h in
@@ -143,6 +160,11 @@ unfolding closed
 closed-behind [] b t = refl
 closed-behind (c ∷ []) b t = refl
 closed-behind (c ∷ d ∷ s) b t = closed-behind (d ∷ s) b t
+
+pub closed-append : (s t : List ℕ) → closed t ≡ true → closed (s ++ t) ≡ true
+unfolding closed
+closed-append s [] h = absurd (true≢false (sym h))
+closed-append s (b ∷ t) h = closed-behind s b t ∙ h
 
 -- ---- Forbidden bytes
 
@@ -193,9 +215,9 @@ unlines-allowed (l ∷ ls) h =
     let p = every-imply (Between 32 126) Allowed (λ b q. ne-eqb _ _ (printed-class b q)) l (h .0) in
     every-append Allowed l (lineFeed ∷ unlines ls) p (refl, unlines-allowed ls (h .1))
 
--- lines of printed bytes put into a text with no forbidden byte
-pub lines-allowed : (s : List ℕ) (ls : List (List ℕ)) (t : List ℕ) → Every (Spans 32 126) ls → forbiddenLine 1 (s ++ t) ≡ 0
+-- lines of printed bytes put into a text with no forbidden byte, in place of m
+pub lines-allowed : (s m : List ℕ) (ls : List (List ℕ)) (t : List ℕ) → Every (Spans 32 126) ls → forbiddenLine 1 (s ++ (m ++ t)) ≡ 0
     → forbiddenLine 1 (s ++ (unlines ls ++ t)) ≡ 0
-lines-allowed s ls t h e =
+lines-allowed s m ls t h e =
     allowed-forbidden 1 (s ++ (unlines ls ++ t))
-    (every-insert Allowed s (unlines ls) t (unlines-allowed ls h) (forbidden-allowed 1 (s ++ t) (omega arith) e))
+    (every-instead Allowed s m (unlines ls) t (unlines-allowed ls h) (forbidden-allowed 1 (s ++ (m ++ t)) (omega arith) e))

@@ -1,3 +1,4 @@
--- The texts that are written for a sheet, and what is claimed of reading them.
+-- The texts that are written for a sheet, what is claimed of reading them, and the form of examples.
 pub mod Text
 pub mod Pasted
+pub mod Examples

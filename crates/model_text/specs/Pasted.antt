@@ -1,12 +1,14 @@
--- Message lines that are put into a sheet are read as the messages that they were written for; at most how many bytes written lines have.
+-- Message lines that are put into a sheet are read as the messages that they were written for, and command lines in the place of others as their commands; at
+-- most how many bytes such lines have.
 use Prim.Native.Nat.{ℕ, _+_, _*_, _≤_}
 use mathlib.Core.Path.{_≡_}
-use mathlib.Core.Bool.{true}
+use mathlib.Core.Bool.{Bool, true, false}
 use mathlib.Core.List.{List, _++_}
 use lib.ListN.{length}
-use Rattle.model.specs.{Text.bytes, Limits.mostBytes, Limits.mostCommands, Limits.mostMessages, Job.Job, Sheet.accepted, Sheet.readSheet, Sheet.closed}
-use Rattle.model.specs.Accepted.{Every, Full, Within}
+use Rattle.model.specs.{Text.bytes, Text.lines, Limits.mostBytes, Limits.mostCommands, Limits.mostMessages, Job.Job, Sheet.accepted, Sheet.readSheet, Sheet.closed}
+use Rattle.model.specs.Accepted.{Every, Full, Within, Bare}
 use Rattle.model.specs.declared.{Entry.Entry, Command.Command}
+use Rattle.read_text.specs.Text.{starts}
 use Rattle.model_text.specs.Text.{messageLines, commandLines}
 
 -- a job with more messages behind its own
@@ -28,6 +30,34 @@ Pasted =
     → (ms : List (List Entry)) → Every (Full (length (j .keys))) ms → length (j .messages) + length ms ≤ mostMessages
     → length (head ++ (messageLines ms ++ tail)) ≤ mostBytes
     → readSheet (head ++ (messageLines ms ++ tail)) ≡ accepted (withMore j ms)
+
+-- a job with other commands in place of its own
+abbrev pub withCommands : Job → List Command → Job
+withCommands j cs = record { keys = j .keys; commands = cs; messages = j .messages; turns = j .turns }
+
+-- a text begins with `do=`
+abbrev pub startsDo : List ℕ → Bool
+startsDo l = starts (bytes "do=") l
+
+-- A sheet that is accepted, cut before its first `do` line and behind its last: of the three parts, each ends with a line feed, the lines of old are those that
+-- begin with `do=`, no line of head does, and tail does not begin with one that does.
+pub record CutAtProgram (head old tail : List ℕ) (j : Job) : Type 0 where
+  pub accepts : readSheet (head ++ (old ++ tail)) ≡ accepted j
+  pub headEnds : closed head ≡ true
+  pub oldEnds : closed old ≡ true
+  pub tailEnds : closed tail ≡ true
+  pub before : Every (λ (l : List ℕ). startsDo l ≡ false) (lines head)
+  pub inside : Every (λ (l : List ℕ). startsDo l ≡ true) (lines old)
+  pub behind : startsDo tail ≡ false
+
+-- Commands within the limits of the sheet's keys and of their own count, written in the place of the sheet's: the sheet is accepted as the same job with these
+-- commands, unless it is too long for a sheet.
+abbrev pub ProgramPasted : Type 0
+ProgramPasted =
+    (head old tail : List ℕ) (j : Job) → CutAtProgram head old tail j
+    → (cs : List Command) → 1 ≤ length cs → length cs ≤ mostCommands → Every (Within (length (j .keys)) (length cs)) cs → Every Bare cs
+    → length (head ++ (commandLines cs ++ tail)) ≤ mostBytes
+    → readSheet (head ++ (commandLines cs ++ tail)) ≡ accepted (withCommands j cs)
 
 -- A message line of at most eight keys has at most 116 bytes: `msg=`, eight keys of one digit with a colon and a number of at most eleven bytes, seven
 -- commas, and the line feed.

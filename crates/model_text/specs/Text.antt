@@ -16,6 +16,11 @@ joined c [] = []
 joined c (p ∷ []) = p
 joined c (p ∷ q ∷ ps) = p ++ (c ∷ joined c (q ∷ ps))
 
+-- texts with a byte before each
+unfoldable pub prefixed : ℕ → List (List ℕ) → List ℕ
+prefixed c [] = []
+prefixed c (p ∷ ps) = c ∷ (p ++ prefixed c ps)
+
 -- "Each line ends with a line feed"
 unfoldable pub unlines : List (List ℕ) → List ℕ
 unlines [] = []

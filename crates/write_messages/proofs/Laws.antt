@@ -2,15 +2,16 @@
 use Prim.Native.Nat.{ℕ, suc, _+_, _≤_, _<_}
 use mathlib.Core.Path.{_≡_, refl, sym, ap, _∙_}
 use mathlib.Core.Bool.{Bool, true, false}
-use mathlib.Core.List.{List, [], _∷_, _++_, map, append-nil}
+use mathlib.Core.List.{List, [], _∷_, _++_, map}
 use native.Mathlib.Numerals.{add-one}
-use lib.{ListN.length, ListN.getD, ListN.take, ListN.drop, ListN.length-map, ListN.List·getD-map, ListN.drop-of-length-le, Seq.drop-cons, Seq.append-snoc}
+use lib.{ListN.length, ListN.getD, ListN.take, ListN.drop, ListN.length-map, ListN.List·getD-map, ListN.drop-of-length-le, Seq.drop-cons}
 use lib.{Seq.getD-take, Seq.length-take-le, IntN.ℤ}
 use Rattle.model.specs.{Text.bytes, Text.comma, Text.lineFeed, Stored.firstOf, Stored.entryIn, Stored.entriesIn, Stored.absentSlot}
 use Rattle.model.specs.declared.{Entry.Entry, EntrySlot.EntrySlot, MessageLine.MessageLine}
 use Rattle.model.specs.declared.Entry.the-variants.{Absent, Number}
 use Rattle.model.proofs.Stored.{first-at, first-count}
-use Rattle.model_text.specs.Text.{joined, unlines, named, pairText, pairs, messageText, messageLine, messageLines}
+use Rattle.model_text.specs.Text.{joined, prefixed, unlines, named, pairText, pairs, messageText, messageLine, messageLines}
+use Rattle.model_text.proofs.Texts.{joined-prefixed, unlines-more, unlines-end}
 use Rattle.write_messages.specs.Messages.{partText, lineText}
 
 -- ---- The parts from key k on, the first of them with or without a comma before it
@@ -20,31 +21,19 @@ partsFrom first k [] = []
 partsFrom first k (Absent ∷ es) = partsFrom first (suc k) es
 partsFrom first k (Number z ∷ es) = partText first k z ++ partsFrom false (suc k) es
 
--- texts behind another one, a comma before each
-unfoldable behind : List (List ℕ) → List ℕ
-behind [] = []
-behind (p ∷ ps) = comma ∷ joined comma (p ∷ ps)
-
-joined-first : (p : List ℕ) (ps : List (List ℕ)) → joined comma (p ∷ ps) ≡ p ++ behind ps
-unfolding joined behind
-joined-first p [] = sym (append-nil p)
-joined-first p (q ∷ ps) = refl
-
-parts-behind : (k : ℕ) (es : List Entry) → partsFrom false k es ≡ behind (map pairText (pairs k es))
-unfolding partsFrom pairs behind
-parts-behind k [] = refl
-parts-behind k (Absent ∷ es) = parts-behind (suc k) es
-parts-behind k (Number z ∷ es) =
-    ap (λ (t : List ℕ). comma ∷ (pairText (k, z) ++ t)) (parts-behind (suc k) es)
-    ∙ ap (λ (t : List ℕ). comma ∷ t) (sym (joined-first (pairText (k, z)) (map pairText (pairs (suc k) es))))
+parts-prefixed : (k : ℕ) (es : List Entry) → partsFrom false k es ≡ prefixed comma (map pairText (pairs k es))
+unfolding partsFrom pairs prefixed
+parts-prefixed k [] = refl
+parts-prefixed k (Absent ∷ es) = parts-prefixed (suc k) es
+parts-prefixed k (Number z ∷ es) = ap (λ (t : List ℕ). comma ∷ (pairText (k, z) ++ t)) (parts-prefixed (suc k) es)
 
 parts-joined : (k : ℕ) (es : List Entry) → partsFrom true k es ≡ joined comma (map pairText (pairs k es))
 unfolding partsFrom pairs joined
 parts-joined k [] = refl
 parts-joined k (Absent ∷ es) = parts-joined (suc k) es
 parts-joined k (Number z ∷ es) =
-    ap (λ (t : List ℕ). pairText (k, z) ++ t) (parts-behind (suc k) es)
-    ∙ sym (joined-first (pairText (k, z)) (map pairText (pairs (suc k) es)))
+    ap (λ (t : List ℕ). pairText (k, z) ++ t) (parts-prefixed (suc k) es)
+    ∙ sym (joined-prefixed comma (pairText (k, z)) (map pairText (pairs (suc k) es)))
 
 -- all parts make the message
 pub parts-all : (es : List Entry) → partsFrom true 0 es ≡ messageText es
@@ -100,11 +89,10 @@ module _ (K : ℕ) (messages : List MessageLine) (count : ℕ) (enough : count �
   pub lines-more : (i : ℕ) → i < count → messageLines (drop i ms) ≡ lineText (entriesIn K (getD messages i noLine)) ++ messageLines (drop (i + 1) ms)
   unfolding messageLines unlines
   lines-more i h =
-      let l : i < length ms = rw size h in
       let e : getD ms i (entriesIn K noLine) ≡ entriesIn K (getD messages i noLine) =
       List·getD-map (entriesIn K) (take count messages) i noLine ∙ ap (entriesIn K) (getD-take count messages i noLine h) in
-      rw (add-one i, drop-cons ms i (entriesIn K noLine) l, e) (sym (append-snoc (messageLine (entriesIn K (getD messages i noLine))) lineFeed (unlines (map messageLine (drop (suc i) ms)))))
+      unlines-more messageLine ms i (entriesIn K noLine) (rw size h) ∙ ap (λ (es : List Entry). lineText es ++ messageLines (drop (i + 1) ms)) e
 
   pub lines-end : (i : ℕ) → count ≤ i → messageLines (drop i ms) ≡ []
-  unfolding messageLines unlines
-  lines-end i h = let l : length ms ≤ i = rw size h in rw (drop-of-length-le ms l)
+  unfolding messageLines
+  lines-end i h = unlines-end messageLine ms i (rw size h)

@@ -40,6 +40,10 @@ room-next s t r h =
 pub room-inside : {d s : List ℕ} {at : ℕ} → Room d at s → at < length d → at + length s ≤ length d
 room-inside r h = ⊎-elim (λ e. absurd (omega arith)) (λ e. e) (r .fits)
 
+-- no text at all
+pub put-nothing : (d : List ℕ) (at : ℕ) → Put d at [] d at
+put-nothing d at = record { memory = sym (placed-nil d at); next = omega arith }
+
 -- a byte at its place, and a text that begins where the memory has ended
 pub put-inside : (d : List ℕ) (at b : ℕ) → Put d at (b ∷ []) (set d at b) (at + 1)
 unfolding placed

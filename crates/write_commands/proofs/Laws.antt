@@ -1,0 +1,64 @@
+-- A word against its row of the table; a command's text as a word and what follows it.
+use mathlib.Core.Path.{_≡_, refl, sym, ap, _∙_, subst}
+use mathlib.Core.List.{List, [], _∷_, _++_, append-nil}
+use Prim.Native.Nat.{ℕ, _+_, _<_, _≤_}
+use lib.{ListN.length, ListN.getD, ListN.take, ListN.drop, Seq.getD-take, Seq.length-take-le}
+use Rattle.model.specs.{Text.space, Text.bytes, Text.lineFeed, Command.blank, Accepted.rowFor}
+use Rattle.model.specs.declared.{Command.Command, Op.Op, Op.the-variants.Set, Operand.Operand}
+use Rattle.model_text.specs.Text.{prefixed, unlines, named, operandText, operandTexts, commandText, commandLine, commandLines}
+use Rattle.model_text.proofs.Texts.{joined-prefixed, unlines-more, unlines-end}
+use Rattle.write_commands.specs.Commands.{operandsAs, Worded}
+use Rattle.write_commands.specs.declared.{Wording.Wording, Operands.Operands}
+use Rattle.write_commands.specs.declared.Operands.the-variants.{None, One, Two}
+
+-- an op that is found to be p
+pub worded : {w : Wording} {o p : Op} → o ≡ p → take (w .1) (w .0) ≡ rowFor p .word → operandsAs (w .2) ≡ rowFor p .parts → w .1 ≤ length (w .0) → Worded w o
+worded {w} e word parts inside = subst (Worded w) (sym e) (record { word = word; parts = parts; inside = inside })
+
+-- the letters, and the operands behind them
+pub text-parts : (w : Wording) (c : Command) → Worded w (c .op) → commandText c ≡ take (w .1) (w .0) ++ prefixed space (operandTexts (operandsAs (w .2)) c)
+unfolding commandText
+text-parts w c h = rw (h .word, h .parts) (joined-prefixed space (rowFor (c .op) .word) (operandTexts (rowFor (c .op) .parts) c))
+
+-- `do=`, as the code has it
+abbrev pub doName : List ℕ
+doName = 100 ∷ 111 ∷ 61 ∷ []
+
+-- the name with its equals sign, what follows it, the line feed
+pub command-parts : (c : Command) → commandLines (c ∷ []) ≡ doName ++ (commandText c ++ (lineFeed ∷ []))
+unfolding commandLines unlines named bytes
+command-parts c = refl
+
+-- ---- What follows a word
+
+module _ (c : Command) where
+  abbrev following : Operands → List ℕ
+  following os = prefixed space (operandTexts (operandsAs os) c)
+
+  pub texts-none : {os : Operands} → os ≡ None → following os ≡ []
+  unfolding prefixed
+  texts-none e = rw e
+
+  pub texts-one : {os : Operands} {o : Operand} → os ≡ One o → following os ≡ space ∷ operandText o c
+  unfolding prefixed
+  texts-one {o = o} e = rw (e, append-nil (operandText o c))
+
+  pub texts-two : {os : Operands} {o p : Operand} → os ≡ Two o p → following os ≡ (space ∷ operandText o c) ++ (space ∷ operandText p c)
+  unfolding prefixed
+  texts-two {p = p} e = rw (e, append-nil (operandText p c))
+
+-- ---- Lines, of the first count commands that an array holds
+
+module _ (commands : List Command) (count : ℕ) (enough : count ≤ length commands) where
+  abbrev cs : List Command
+  cs = take count commands
+
+  pub commands-more : (i : ℕ) → i < count → commandLines (drop i cs) ≡ commandLines (getD commands i (blank Set) ∷ []) ++ commandLines (drop (i + 1) cs)
+  unfolding commandLines
+  commands-more i h =
+      unlines-more commandLine cs i (blank Set) (rw (length-take-le count commands enough) h)
+      ∙ ap (λ (c : Command). commandLines (c ∷ []) ++ commandLines (drop (i + 1) cs)) (getD-take count commands i (blank Set) h)
+
+  pub commands-end : (i : ℕ) → count ≤ i → commandLines (drop i cs) ≡ []
+  unfolding commandLines
+  commands-end i h = unlines-end commandLine cs i (rw (length-take-le count commands enough) h)

@@ -1,0 +1,123 @@
+// Command lines as a sheet has them.
+use model::COMMAND_CAPACITY;
+use model::Command;
+use model::Op;
+use model::Operand;
+use write_text::put_byte;
+use write_text::put_whole;
+use write_text::put_word;
+ghost use mathlib.Core.Path.{_≡_};
+ghost use mathlib.Core.List.{[], _∷_};
+ghost use Prim.Native.Nat.{_≤_};
+ghost use lib.ListN.{take};
+ghost use Rattle.model.specs.{Text.space, Decimal.whole, Stored.commandCapacity};
+ghost use Rattle.model_text.specs.Text.{prefixed, operandText, operandTexts, commandText, commandLines};
+ghost use Rattle.write_text.specs.Put.{Put, Room};
+ghost use Rattle.write_commands.specs.Commands.{Worded, operandsAs};
+
+// The operands that follow a word.
+enum Operands {
+    None,
+    One(Operand),
+    Two(Operand, Operand),
+}
+
+// What the table says of a word: its letters, how many of these bytes they are, and its operands.
+struct Wording([u8; 7], usize, Operands);
+
+fn wording_of(op: Op) -> Wording
+    ensures { λ r. ⌜ Worded r op ⌝ }
+{
+    match op {
+        Op::Set => Wording(*b"set    ", 3, Operands::Two(Operand::InV, Operand::InN)),
+        Op::Add => Wording(*b"add    ", 3, Operands::Two(Operand::InV, Operand::InW)),
+        Op::Sub => Wording(*b"sub    ", 3, Operands::Two(Operand::InV, Operand::InW)),
+        Op::Mul => Wording(*b"mul    ", 3, Operands::Two(Operand::InV, Operand::InW)),
+        Op::Div => Wording(*b"div    ", 3, Operands::Two(Operand::InV, Operand::InW)),
+        Op::Read => Wording(*b"read   ", 4, Operands::Two(Operand::InV, Operand::InK)),
+        Op::Has => Wording(*b"has    ", 3, Operands::Two(Operand::InV, Operand::InK)),
+        Op::Put => Wording(*b"put    ", 3, Operands::Two(Operand::InK, Operand::InV)),
+        Op::Drop => Wording(*b"drop   ", 4, Operands::One(Operand::InK)),
+        Op::IfNeg => Wording(*b"ifneg  ", 5, Operands::Two(Operand::InV, Operand::InT)),
+        Op::IfZero => Wording(*b"ifzero ", 6, Operands::Two(Operand::InV, Operand::InT)),
+        Op::Jump => Wording(*b"jump   ", 4, Operands::One(Operand::InT)),
+        Op::Receive => Wording(*b"receive", 7, Operands::None),
+        Op::Send => Wording(*b"send   ", 4, Operands::None),
+        Op::Stop => Wording(*b"stop   ", 4, Operands::None),
+    }
+}
+
+// An operand of a command as a number of the full range, which has them all.
+fn value_of(c: Command, o: Operand) -> i32
+    ensures { λ r. ⌜ whole r ≡ operandText o c ⌝ }
+{
+    match o {
+        Operand::InV => c.v as i32,
+        Operand::InW => c.w as i32,
+        Operand::InK => c.k as i32,
+        Operand::InT => c.t as i32,
+        Operand::InN => c.n,
+    }
+}
+
+// An operand behind its space.
+fn put_operand(out: &mut [u8], at: usize, c: Command, o: Operand) -> usize
+    requires { ⌜ Room (now out) at (space ∷ operandText o c) ⌝ }
+    ensures { λ r. ⌜ Put (now (out .entry)) at (space ∷ operandText o c) (now (out .exit)) r ⌝ }
+{
+    let x = value_of(c, o);
+    let value = put_byte(out, at, b' ');
+    put_whole(out, value, x)
+}
+
+fn put_operands(out: &mut [u8], at: usize, c: Command, os: Operands) -> usize
+    requires { ⌜ Room (now out) at (prefixed space (operandTexts (operandsAs os) c)) ⌝ }
+    ensures { λ r. ⌜ Put (now (out .entry)) at (prefixed space (operandTexts (operandsAs os) c)) (now (out .exit)) r ⌝ }
+{
+    match os {
+        Operands::None => at,
+        Operands::One(o) => put_operand(out, at, c, o),
+        Operands::Two(o, p) => {
+            let next = put_operand(out, at, c, o);
+            put_operand(out, next, c, p)
+        }
+    }
+}
+
+// What follows `do=`.
+fn put_text(out: &mut [u8], at: usize, c: Command) -> usize
+    requires { ⌜ Room (now out) at (commandText c) ⌝ }
+    ensures { λ r. ⌜ Put (now (out .entry)) at (commandText c) (now (out .exit)) r ⌝ }
+{
+    let op = c.op;
+    let w = wording_of(op);
+    let letters = w.0;
+    let count = w.1;
+    let os = w.2;
+    let next = put_word(out, at, &letters[..count]);
+    put_operands(out, next, c, os)
+}
+
+fn put_command(out: &mut [u8], at: usize, c: Command) -> usize
+    requires { ⌜ Room (now out) at (commandLines (c ∷ [])) ⌝ }
+    ensures { λ r. ⌜ Put (now (out .entry)) at (commandLines (c ∷ [])) (now (out .exit)) r ⌝ }
+{
+    let value = put_word(out, at, b"do=");
+    let end = put_text(out, value, c);
+    put_byte(out, end, b'\n')
+}
+
+// The lines of the first count commands, at the front of the memory.
+pub fn put_commands(out: &mut [u8], commands: [Command; COMMAND_CAPACITY], count: usize) -> usize
+    requires { ⌜ (count ≤ commandCapacity) × Room (now out) 0 (commandLines (take count commands)) ⌝ }
+    ensures { λ r. ⌜ Put (now (out .entry)) 0 (commandLines (take count commands)) (now (out .exit)) r ⌝ }
+{
+    let mut next: usize = 0;
+    let mut i: usize = 0;
+    while i < count {
+        let c = commands[i];
+        next = put_command(out, next, c);
+        i += 1;
+    }
+    next
+}
