@@ -13,7 +13,7 @@ fn complain(what: &[u8]) {
 fn main() {
     let mut log = input::buffer();
     let mut output = [0u8; LENT_BYTES];
-    match input::read_text(&mut log) {
+    match input::text_argument(&mut log, 1) {
         Text::Got(n) => {
             show::write_and_print(&log[..n], &mut output);
         }

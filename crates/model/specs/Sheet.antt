@@ -54,10 +54,13 @@ closed [] = false
 closed (b ∷ []) = eqb b lineFeed
 closed (b ∷ c ∷ bs) = closed (c ∷ bs)
 
--- "Order: 10, 1, 2 over the whole sheet, then line by line from the top". Refusal 1: "more than 16,384 bytes; line 0". Refusal 2, "else the last
--- byte is not 10, or the sheet is empty (line = line feeds + 1)"
+-- Over a whole text, in which refusals are told by refuse: refusal 2, "else the last byte is not 10, or the sheet is empty (line = line feeds + 1)"; and what the
+-- text comes to where it does not apply
+abbrev pub overText : {A : Type 0} → (ℕ → ℕ → A) → List ℕ → A → A
+overText refuse s a =
+    cond (leb 1 (forbiddenLine 1 s)) (refuse 2 (forbiddenLine 1 s))
+    (cond (closed s) a (refuse 2 (count lineFeed s + 1)))
+
+-- "Order: 10, 1, 2 over the whole sheet, then line by line from the top". Refusal 1: "more than 16,384 bytes; line 0".
 unfoldable pub readSheet : List ℕ → Reading
-readSheet s =
-    cond (ltb mostBytes (length s)) (refused 1 0)
-    (cond (leb 1 (forbiddenLine 1 s)) (refused 2 (forbiddenLine 1 s))
-    (cond (closed s) (readLines (lines s)) (refused 2 (count lineFeed s + 1))))
+readSheet s = cond (ltb mostBytes (length s)) (refused 1 0) (overText refused s (readLines (lines s)))

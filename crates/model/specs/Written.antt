@@ -1,5 +1,5 @@
 -- Document 02, of every function that writes text into lent memory: "The answer is the number, the row .., and the bytes written; a refusal writes nothing."
-use Prim.Native.Nat.{ℕ, _≤_, _<_}
+use Prim.Native.Nat.{ℕ, _%_, _≤_, _<_}
 use mathlib.Core.Path.{_≡_}
 use mathlib.Core.Logic.{_≢_}
 use mathlib.Core.Bool.{cond}
@@ -36,9 +36,13 @@ write short m (text s) =
 
 -- ---- The C entries that write text
 
--- "The answer is the number, the row .., and the bytes written"
+-- Note 1: "The answer is the number, the row .., and the bytes written"; Note 5: "number, line (0 on success) and bytes"
 abbrev pub textNumbers : TextAnswer → List ℕ
 textNumbers a = a .number ∷ a .line ∷ a .bytes ∷ []
+
+-- as much of them as 32 bits hold: the line may be any of a text of any length. Their bytes are those of the numbers (`le32`)
+abbrev pub lowNumbers : TextAnswer → List ℕ
+lowNumbers a = a .number ∷ a .line % 4294967296 ∷ a .bytes ∷ []
 
 -- three numbers: 12 bytes
 abbrev pub textNumberCount : ℕ

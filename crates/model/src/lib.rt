@@ -263,10 +263,10 @@ pub enum Answer {
     Refused(u32, u32),
 }
 
-// What the writing of a text answers: 0 or a refusal's number, the line that it names, and the bytes written.
+// What the writing of a text answers: 0 or a refusal's number, the line that it names, and the bytes written. The line may be any of a text of any length.
 pub struct TextAnswer {
     pub number: u32,
-    pub line: u32,
+    pub line: usize,
     pub bytes: u32,
 }
 

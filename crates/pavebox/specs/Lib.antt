@@ -1,3 +1,4 @@
 pub mod Entry
 pub mod Demands
+pub mod Texts
 pub mod Log

@@ -4,29 +4,25 @@ use mathlib.Core.Path.{_≡_}
 use mathlib.Core.Logic.{_≢_}
 use mathlib.Core.List.{List, [], _∷_, _++_}
 use lib.ListN.{length, drop, replicate}
-use Rattle.model.specs.{Text.bytes, Answer.allLe32, Answer.bytesFor, Written.textNumberCount}
+use Rattle.model.specs.{Text.bytes, Answer.bytesFor, Written.textNumberCount}
 use Rattle.model.specs.declared.Entry.{Entry}
 use Rattle.model_text.specs.Text.{messageLines}
 use Rattle.model_log.specs.{Log.messages, Log.refused, Log.readLog, Log.logEntry, Claims.mostLogBytes}
-use Rattle.pavebox.specs.Entry.{LogAnswered}
+use Rattle.pavebox.specs.{Entry.LogAnswered, Texts.ThreeNumbers}
 
 -- A call with an answer memory of 12 bytes
 pub record LogCalled (log output answer : List ℕ) (returned : ℕ) (output′ answer′ : List ℕ) : Type 0 where
   pub sized : length answer ≡ bytesFor textNumberCount
   pub met : LogAnswered log output answer returned output′ answer′
 
--- the three numbers of an answer, of which the first is returned
-abbrev pub Answers : ℕ → ℕ → ℕ → ℕ → List ℕ → Type 0
-Answers number row count returned answer′ = (returned ≡ number) × (answer′ ≡ allLe32 (number ∷ row ∷ count ∷ []))
-
 pub record LogWritten (log output answer : List ℕ) (returned : ℕ) (output′ answer′ : List ℕ) : Type 0 where
   -- 8, 41 and 42 with their rows depend on the export alone, and "a refusal writes nothing"
-  pub refuses : (n row : ℕ) → readLog log ≡ refused n row → Answers n row 0 returned answer′ × (output′ ≡ output)
+  pub refuses : (n row : ℕ) → readLog log ≡ refused n row → ThreeNumbers n row 0 returned answer′ × (output′ ≡ output)
   -- success writes exactly the lines, and behind them stand the old bytes; exactly enough memory is enough
   pub writes : (ms : List (List Entry)) → readLog log ≡ messages ms → length (messageLines ms) ≤ length output
-      → Answers 0 0 (length (messageLines ms)) returned answer′ × (output′ ≡ messageLines ms ++ drop (length (messageLines ms)) output)
+      → ThreeNumbers 0 0 (length (messageLines ms)) returned answer′ × (output′ ≡ messageLines ms ++ drop (length (messageLines ms)) output)
   -- "43, last, where the lent memory is too short"
-  pub lacks : (ms : List (List Entry)) → readLog log ≡ messages ms → length output < length (messageLines ms) → Answers 43 0 0 returned answer′ × (output′ ≡ output)
+  pub lacks : (ms : List (List Entry)) → readLog log ≡ messages ms → length output < length (messageLines ms) → ThreeNumbers 43 0 0 returned answer′ × (output′ ≡ output)
   -- with 3,712 bytes lent it never is
   pub enough : mostLogBytes ≤ length output → returned ≢ 43
   pub size : length output′ ≡ length output

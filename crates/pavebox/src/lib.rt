@@ -1,12 +1,19 @@
 // The C entries. What they do is in the crates below; each has its contract in specs/.
 use model::ANSWER_BYTES;
 use model::TEXT_ANSWER_BYTES;
+use model::TextAnswer;
 use whole_log::write_log;
 use whole_sheet::run_sheet;
 use write_answer::numbers;
 use write_answer::put_numbers;
 use write_answer::text_numbers;
+ghost use mathlib.Core.Path.{_≡_};
+ghost use lib.ListN.{length};
+ghost use Rattle.model.specs.{Answer.allLe32, Answer.bytesFor, Written.textNumbers, Written.textNumberCount};
 ghost use Rattle.pavebox.specs.Entry.{Answered, LogAnswered};
+
+// The answer memory, as the header names it.
+const CSV_ANSWER_BYTES: usize = TEXT_ANSWER_BYTES;
 
 // An answer memory of another length than 28 bytes gets 10, and nothing is written; else the sheet is run on the output memory, the seven numbers go
 // into the answer memory, and the first of them is returned.
@@ -23,17 +30,25 @@ pub extern "C" fn pavebox_run(sheet: &[u8], output: &mut [u8], answer: &mut [u8]
     ns[0]
 }
 
+// The three numbers of a text's answer go into the answer memory, and the first of them is given.
+fn put_text_answer(answer: &mut [u8], a: TextAnswer) -> u32
+    requires { ⌜ length (now answer) ≡ bytesFor textNumberCount ⌝ }
+    ensures { λ r. ⌜ (r ≡ a .number) × (now (answer .exit) ≡ allLe32 (textNumbers a)) ⌝ }
+{
+    let ns = text_numbers(a);
+    put_numbers(answer, &ns);
+    a.number
+}
+
 // An answer memory of another length than 12 bytes gets 10, and nothing is written; else the `msg` lines of the export go into the output memory, the three
 // numbers go into the answer memory, and the first of them is returned.
 #[no_mangle]
 pub extern "C" fn pavebox_csv(log: &[u8], output: &mut [u8], answer: &mut [u8]) -> u32
     ensures { λ r. ⌜ LogAnswered (now (log .entry)) (now (output .entry)) (now (answer .entry)) r (now (output .exit)) (now (answer .exit)) ⌝ }
 {
-    if answer.len() != TEXT_ANSWER_BYTES {
+    if answer.len() != CSV_ANSWER_BYTES {
         return 10;
     }
     let a = write_log(log, output);
-    let ns = text_numbers(a);
-    put_numbers(answer, &ns);
-    a.number
+    put_text_answer(answer, a)
 }

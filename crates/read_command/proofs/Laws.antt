@@ -1,9 +1,10 @@
 -- The parts of a command's line, as the code takes them apart at its spaces.
 use mathlib.Core.Path.{_≡_, refl, sym, ap, _∙_}
+use mathlib.Core.Bool.{cond}
 use mathlib.Core.List.{List, [], _∷_}
 use Prim.Native.Nat.{ℕ, _+_, _-_, _<_, _≤_}
-use native.Mathlib.Omega.{arith}
-use lib.{IntN.pos, ListN.length, ListN.take, ListN.drop, Seq.take-all}
+use native.Mathlib.{Omega.arith, Decide.decLt}
+use lib.{IntN.pos, Dec.ltb, ListN.length, ListN.take, ListN.drop, Seq.take-all}
 use borrow.Author.Tests.{ne-eqb, le-ltb, lt-ltb}
 use Rattle.model.specs.{Limits.variables, Parsed.Parsed, Parsed.got, Parsed.refused, Parsed._>>=_, Text.find, Text.space, Text.split, Number.upTo, Number.number}
 use Rattle.model.specs.{Command.Row, Command.Limits, Command.table, Command.blank, Command.operand, Command.operands, Command.byRow, Command.rowOf, Command.words}
@@ -11,9 +12,9 @@ use Rattle.model.specs.{Command.readCommand}
 use Rattle.model.specs.declared.{Op.Op, Command.Command, Operand.Operand}
 use Rattle.model.specs.declared.Operand.the-variants.{InV, InW, InK, InT, InN}
 use Rattle.model.proofs.Accepted.{up-to-bound}
-use Rattle.read_text.proofs.{Laws.rest, Lines.split-end, Lines.split-at, Lines.split-first, Lines.split-some}
+use Rattle.read_text.proofs.{Laws.rest, Lines.split-end, Lines.split-at, Lines.split-some}
 use Rattle.read_command.specs.{Code.saidBy, Code.lookup, Command.shapeAs, Command.single, Command.halves, Command.cutAt, Command.oneOf, Command.twoOf}
-use Rattle.read_command.specs.{Command.mapped, Command.commandOf, Command.withNumber}
+use Rattle.read_command.specs.{Command.mapped, Command.commandOf, Command.withNumber, Command.partsAfter, Command.byWord}
 use Rattle.read_command.specs.declared.Shape.{Shape}
 use Rattle.read_command.specs.declared.Shape.the-variants.{K, T, VN, VW, VK, KV, VT}
 
@@ -27,6 +28,15 @@ behind t f = take (length t - (f + 1)) (drop (f + 1) t)
 
 pub split-behind : (t : List ℕ) (f : ℕ) → f ≡ find space t → f < length t → split space t ≡ take f t ∷ split space (behind t f)
 split-behind t f q h = split-at space t f q h _ (rest t (f + 1))
+
+-- the word of a line and its parts
+pub split-word : (s : List ℕ) (e : ℕ) → e ≡ find space s → split space s ≡ take e s ∷ partsAfter e s
+unfolding partsAfter
+split-word s e q = go (decLt e (length s))
+  where
+    go : Dec (e < length s) → split space s ≡ take e s ∷ cond (ltb e (length s)) (split space (drop (e + 1) s)) []
+    go (yes h) = rw (lt-ltb _ _ h, split-at space s e q h _ refl)
+    go (no h) = let l : length s ≤ e = omega arith in rw (le-ltb _ _ l, split-end space s e q l, take-all e s l)
 
 -- ---- One part, and two
 
@@ -192,21 +202,17 @@ by-lookup l w ps = go (rowOf table w)
     go (got x) = refl
     go (refused n) = refl
 
--- the first space of s is at e, and the table says w of the word before it
-pub record WordRead (s : List ℕ) (e : ℕ) (w : Parsed (Op × List Operand)) : Type 0 where
-  pub end : e ≡ find space s
-  pub says : lookup (take e s) ≡ w
+-- what the word before the first space of s, at e, and the parts behind it say
+pub line-by-word : (l : Limits) (s : List ℕ) (e : ℕ) {w : Parsed (Op × List Operand)} → e ≡ find space s → w ≡ lookup (take e s)
+    → byWord l w (partsAfter e s) ≡ readCommand l s
+unfolding readCommand
+line-by-word l s e q h = rw (split-word s e q, h) (sym (by-lookup l (take e s) (partsAfter e s)))
 
-module _ (l : Limits) {s : List ℕ} {e : ℕ} where
-  pub word-none : WordRead s e (refused 6) → readCommand l s ≡ refused 6
-  unfolding readCommand
-  word-none r = let f = split-first space s e (r .end) in rw (f .1, by-lookup l (take e s) (f .0), r .says)
+-- the parts of a line, where its word is alone, and where a space follows it
+pub parts-none : (s : List ℕ) (e : ℕ) → length s ≤ e → partsAfter e s ≡ []
+unfolding partsAfter
+parts-none s e h = rw (le-ltb _ _ h)
 
-  module _ {o : Op} {os : List Operand} (r : WordRead s e (got (o, os))) where
-    pub word-alone : length s ≤ e → readCommand l s ≡ byRow l o os []
-    unfolding readCommand
-    word-alone z = rw (split-end space s e (r .end) z, ← (take-all e s z), by-lookup l (take e s) [], r .says)
-
-    pub word-more : e < length s → readCommand l s ≡ byRow l o os (split space (behind s e))
-    unfolding readCommand
-    word-more z = rw (split-behind s e (r .end) z, by-lookup l (take e s) (split space (behind s e)), r .says)
+pub parts-behind : (s : List ℕ) (e : ℕ) → e < length s → partsAfter e s ≡ split space (behind s e)
+unfolding partsAfter
+parts-behind s e h = rw (lt-ltb _ _ h, rest s (e + 1))

@@ -5,9 +5,9 @@ use mathlib.Core.List.{List, [], _∷_, _++_}
 use Prim.Native.Nat.{ℕ, zero, suc, _+_, _-_, _*_, _%_, _<_, _≤_}
 use native.Mathlib.{Numerals.add-one, Omega.arith, Decide.decLt, Nat.mod-eq-of-lt, Nat.suc-add, Nat.zero-add}
 use lib.{Dec.eqb, Dec.ltb, Dec.leb, ListN.length, ListN.getD, ListN.take, Seq.take-suc, Seq.length-take-le}
-use borrow.Author.Tests.{eq-eqb, ne-eqb, eqb-true, lt-ltb, le-ltb, ltb-true, leb-true}
+use borrow.Author.Tests.{eq-eqb, ne-eqb, lt-ltb, le-ltb, ltb-true, leb-true}
 use Rattle.model.specs.{Parsed.got, Parsed.refused, Parsed._>>=_, Text.bytes, Text.same, Command.Row, Command.table, Command.rowOf}
-use Rattle.read_text.proofs.{Laws.and-both, Lines.same-refl}
+use Rattle.read_text.proofs.{Laws.and-both, Lines.same-refl, Lines.same-eq}
 use Rattle.read_command.specs.Code.{longestWord, sixBytes, packed, withCount, codeOf, saidBy, lookup, lookupCode}
 
 -- ---- Packing a word, byte by byte
@@ -103,14 +103,7 @@ code-eq w u f s e = go (decLt longestWord (length w))
 
 -- ---- The same as a test
 
-same-eq : (w u : List ℕ) → same w u ≡ true → w ≡ u
-unfolding same
-same-eq [] [] e = refl
-same-eq [] (y ∷ u) e = absurd (true≢false (sym e))
-same-eq (x ∷ w) [] e = absurd (true≢false (sym e))
-same-eq (x ∷ w) (y ∷ u) e = let b = and-both (eqb x y) (same w u) e in cc (eqb-true x y (b .0), same-eq w u (b .1))
-
-code-same : (w u : List ℕ) → Bytes w → Short u → eqb (codeOf w) (codeOf u) ≡ same w u
+pub code-same : (w u : List ℕ) → Bytes w → Short u → eqb (codeOf w) (codeOf u) ≡ same w u
 code-same w u f s = go (same w u) refl
   where
     go : (t : Bool) → same w u ≡ t → eqb (codeOf w) (codeOf u) ≡ t
@@ -119,7 +112,7 @@ code-same w u f s = go (same w u) refl
 
 -- ---- The table's words are short: one computed test
 
-unfoldable small : List ℕ → Bool
+unfoldable pub small : List ℕ → Bool
 small [] = true
 small (b ∷ bs) = ltb b 256 && small bs
 
@@ -133,7 +126,7 @@ small-bytes [] e i = omega arith
 small-bytes (b ∷ bs) e zero = ltb-true b 256 (and-both (ltb b 256) (small bs) e .0)
 small-bytes (b ∷ bs) e (suc i) = small-bytes bs (and-both (ltb b 256) (small bs) e .1) i
 
-word-short : (u : List ℕ) → small u && (leb 1 (length u) && leb (length u) longestWord) ≡ true → Short u
+pub word-short : (u : List ℕ) → small u && (leb 1 (length u) && leb (length u) longestWord) ≡ true → Short u
 word-short u e =
     let p = and-both _ _ e in
     let q = and-both _ _ (p .1) in
@@ -150,7 +143,7 @@ rows-by-code (r ∷ rs) w f s =
     go true = refl
     go false = refl
 
-bytes-take : (s : List ℕ) (e : ℕ) → Bytes s → Bytes (take e s)
+pub bytes-take : (s : List ℕ) (e : ℕ) → Bytes s → Bytes (take e s)
 bytes-take s zero f i = omega arith
 bytes-take [] (suc e) f i = omega arith
 bytes-take (b ∷ s) (suc e) f zero = f 0

@@ -3,7 +3,7 @@ use mathlib.Core.Bool.{cond}
 use mathlib.Core.List.{List, [], _∷_}
 use Prim.Native.Nat.{ℕ, _+_, _≤_}
 use lib.{Dec.ltb, IntN.ℤ, ListN.length, ListN.take, ListN.drop}
-use Rattle.model.specs.Parsed.{Parsed, got, refused, _>>=_}
+use Rattle.model.specs.{Parsed.Parsed, Parsed.got, Parsed.refused, Parsed._>>=_, Text.space, Text.split, Command.Limits, Command.byRow}
 use Rattle.model.specs.declared.{Op.Op, Command.Command, Operand.Operand}
 use Rattle.model.specs.declared.Operand.the-variants.{InV, InW, InK, InT, InN}
 use Rattle.read_command.specs.declared.{Line.Line, Shape.Shape, CommandWord.CommandWord, Two.Two}
@@ -41,6 +41,14 @@ wordAs (Followed o s) = got (o, shapeAs s)
 wordAs Unknown = refused 6
 
 -- ---- The parts after the word
+
+-- the parts of a line s whose word ends at e
+unfoldable pub partsAfter : ℕ → List ℕ → List (List ℕ)
+partsAfter e s = cond (ltb e (length s)) (split space (drop (e + 1) s)) []
+
+-- what the word and its parts say
+abbrev pub byWord : Limits → Parsed (Op × List Operand) → List (List ℕ) → Parsed Command
+byWord l w ps = w >>= (λ x. byRow l (x .0) (x .1) ps)
 
 -- a text that is one part, and a text that is two
 unfoldable pub single : List (List ℕ) → Parsed (List ℕ)

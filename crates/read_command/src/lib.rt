@@ -16,8 +16,8 @@ ghost use lib.{IntN.pos, ListN.take};
 ghost use Rattle.model.specs.{Limits.variables, Text.find, Text.space, Text.split, Number.number, Number.upTo, Command.byRow, Command.limits, Command.readCommand};
 ghost use Rattle.model.specs.{Command.table};
 ghost use Rattle.read_text.specs.Text.{naturalAs};
-ghost use Rattle.read_command.specs.{Code.codeOf, Code.lookupCode, Code.sixBytes, Code.withCount, Command.Fair, Command.Fields, Command.commandOf, Command.cutAt};
-ghost use Rattle.read_command.specs.{Command.halves, Command.lineAs, Command.mapped, Command.oneOf, Command.shapeAs, Command.twoAs, Command.twoOf};
+ghost use Rattle.read_command.specs.{Code.codeOf, Code.lookupCode, Code.sixBytes, Code.withCount, Command.Fair, Command.Fields, Command.byWord, Command.commandOf, Command.cutAt};
+ghost use Rattle.read_command.specs.{Command.halves, Command.lineAs, Command.mapped, Command.oneOf, Command.partsAfter, Command.shapeAs, Command.twoAs, Command.twoOf};
 ghost use Rattle.read_command.specs.{Command.withNumber, Command.wordAs};
 
 // No word of the table has more bytes.
@@ -33,7 +33,7 @@ pub enum Line {
 }
 
 // The parts that follow a word, by the letters of the table.
-enum Shape {
+pub enum Shape {
     K,
     T,
     VN,
@@ -44,16 +44,16 @@ enum Shape {
 }
 
 // What the table says of a word.
-enum CommandWord {
+pub enum CommandWord {
     Alone(Op),
     Followed(Op, Shape),
     Unknown,
 }
 
 // The word before the first space as a number, and where it ends.
-struct FirstWord {
-    code: u64,
-    end: usize,
+pub struct FirstWord {
+    pub code: u64,
+    pub end: usize,
 }
 
 // Two natural numbers, or the number of the refusal.
@@ -79,7 +79,7 @@ fn word_at(a: u64, i: usize) -> FirstWord
 
 // What stands before the first space: its number, by which one match finds the word, and where it ends. The remainder keeps a in its range where
 // the word is longer than any of the table.
-fn first_word(s: &[u8]) -> FirstWord
+pub fn first_word(s: &[u8]) -> FirstWord
     ensures { λ r. ⌜ (r .end ≡ find space (now (s .entry))) × (r .code ≡ codeOf (take (r .end) (now (s .entry)))) ⌝ }
 {
     let mut a: u64 = 0;
@@ -95,7 +95,8 @@ fn first_word(s: &[u8]) -> FirstWord
     word_at(a, i)
 }
 
-fn word_by_code(code: u64) -> CommandWord
+// The row of the table by the number of its word.
+pub fn word_by_code(code: u64) -> CommandWord
     ensures { λ r. ⌜ wordAs r ≡ lookupCode table code ⌝ }
 {
     match code {
@@ -150,7 +151,7 @@ fn only_space(t: &[u8]) -> usize
 }
 
 // One part, a number up to m.
-fn one_part(t: &[u8], m: u64) -> Natural
+pub fn one_part(t: &[u8], m: u64) -> Natural
     requires { ⌜ m < 4294967296 ⌝ }
     ensures { λ r. ⌜ naturalAs r ≡ oneOf (upTo m) (split space (now (t .entry))) ⌝ }
 {
@@ -234,14 +235,12 @@ fn read_parts(op: Op, shape: Shape, t: &[u8], keys: u64, target: u64) -> Line
     }
 }
 
-// What follows `do=`, where there are so many keys and no target above the highest is read.
-pub fn read_command(s: &[u8], keys: u64, target: u64) -> Line
+// What a word with its parts says: the word ends at e.
+pub fn read_operands(word: CommandWord, s: &[u8], e: usize, keys: u64, target: u64) -> Line
     requires { ⌜ Fair keys target ⌝ }
-    ensures { λ r. ⌜ lineAs r ≡ readCommand (limits keys target) (now (s .entry)) ⌝ }
+    ensures { λ r. ⌜ lineAs r ≡ byWord (limits keys target) (wordAs word) (partsAfter e (now (s .entry))) ⌝ }
 {
-    let w = first_word(s);
-    let e = w.end;
-    match word_by_code(w.code) {
+    match word {
         CommandWord::Alone(op) => {
             if e < s.len() {
                 return Line::Refused(6);
@@ -256,4 +255,13 @@ pub fn read_command(s: &[u8], keys: u64, target: u64) -> Line
         }
         CommandWord::Unknown => Line::Refused(6),
     }
+}
+
+// What follows `do=`, where there are so many keys and no target above the highest is read.
+pub fn read_command(s: &[u8], keys: u64, target: u64) -> Line
+    requires { ⌜ Fair keys target ⌝ }
+    ensures { λ r. ⌜ lineAs r ≡ readCommand (limits keys target) (now (s .entry)) ⌝ }
+{
+    let w = first_word(s);
+    read_operands(word_by_code(w.code), s, w.end, keys, target)
 }

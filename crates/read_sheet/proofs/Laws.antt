@@ -1,17 +1,17 @@
 -- Laws of the lines in their order: what is read after a phase, and what its refusal is.
 use mathlib.Core.Path.{_≡_, refl, sym, ap, _∙_, subst}
-use mathlib.Core.Bool.{Bool, true, false, cond}
 use mathlib.Core.List.{List, [], _∷_}
-use Prim.Native.Nat.{ℕ, suc, _+_, _-_, _<_, _≤_}
+use Prim.Native.Nat.{ℕ, _+_, _-_, _<_, _≤_}
 use native.Mathlib.Omega.{arith}
-use lib.{Dec.eqb, ListN.length, ListN.take, ListN.drop, ListN.length-drop}
-use borrow.Author.Tests.{lt-ltb, le-ltb, le-leb, lt-leb}
-use Rattle.model.specs.{Limits.mostBytes, Text.bytes, Text.lines, Text.count, Text.classOf, Text.lineFeed, Pair.ByKey, Form.formOf, Head.sheetLine, Head.keysLine, Text.free}
+use lib.{ListN.length, ListN.take, ListN.drop, ListN.length-drop}
+use borrow.Author.Tests.{lt-ltb, le-ltb}
+use Rattle.model.specs.{Limits.mostBytes, Text.bytes, Text.lines, Pair.ByKey, Form.formOf, Head.sheetLine, Head.keysLine, Text.free}
 use Rattle.model.specs.{Head.readFirst, Head.readKeys, Head.readSecrets, Program.readCommands, Messages.readMessages, Turns.readTurns, Job.Job, Sheet.Reading}
-use Rattle.model.specs.{Sheet.accepted, Sheet.refused, Sheet.next, Sheet.targets, Sheet.readBody, Sheet.readLines, Sheet.forbiddenLine, Sheet.closed, Sheet.readSheet}
+use Rattle.model.specs.{Sheet.accepted, Sheet.refused, Sheet.next, Sheet.targets, Sheet.readBody, Sheet.readLines, Sheet.readSheet}
 use Rattle.model.specs.Phase as Model
 use Rattle.model.specs.declared.{Form.Form, Entry.Entry, Key.Key, Command.Command, Level.Level}
-use Rattle.read_text.specs.Text.{Word}
+use Rattle.read_text.specs.Text.{Word, spoiltLine}
+use Rattle.read_text.proofs.Laws.{text-spoilt, text-whole}
 use Rattle.read_line.specs.Phase.{Reads, Ahead, phaseAs}
 use Rattle.read_line.specs.declared.Phase.{Phase}
 use Rattle.read_line.specs.declared.Phase.the-variants.{Got, Refused}
@@ -148,31 +148,16 @@ module _ {cs : List Command} {m r : ℕ} (f : FirstFar cs m r) (top : ℕ) (j : 
 
 -- ---- The whole sheet
 
-pub forbidden-most : (n : ℕ) (s : List ℕ) → forbiddenLine n s ≤ n + length s
-unfolding forbiddenLine
-forbidden-most n [] = omega arith
-forbidden-most n (b ∷ bs) = go (eqb (classOf b) 10) (eqb b 10) (forbidden-most (n + 1) bs) (forbidden-most n bs)
-  where
-    go : (x y : Bool) → forbiddenLine (n + 1) bs ≤ n + 1 + length bs → forbiddenLine n bs ≤ n + length bs → cond x n (forbiddenLine (cond y (n + 1) n) bs) ≤ n + suc (length bs)
-    go true y h k = omega arith
-    go false true h k = omega arith
-    go false false h k = omega arith
-
 module _ (s : List ℕ) where
   pub sheet-long : mostBytes < length s → readSheet s ≡ refused 1 0
   unfolding readSheet
   sheet-long h = rw (lt-ltb _ _ h)
 
   module _ (h : length s ≤ mostBytes) where
-    pub sheet-forbidden : 1 ≤ forbiddenLine 1 s → readSheet s ≡ refused 2 (forbiddenLine 1 s)
+    pub sheet-spoilt : 1 ≤ spoiltLine s → readSheet s ≡ refused 2 (spoiltLine s)
     unfolding readSheet
-    sheet-forbidden f = rw (le-ltb _ _ h, le-leb _ _ f)
+    sheet-spoilt f = rw (le-ltb _ _ h) (text-spoilt refused s (readLines (lines s)) f)
 
-    module _ (f : forbiddenLine 1 s < 1) where
-      pub sheet-open : closed s ≡ false → readSheet s ≡ refused 2 (count lineFeed s + 1)
-      unfolding readSheet
-      sheet-open e = rw (le-ltb _ _ h, lt-leb _ _ f, e)
-
-      pub sheet-lines : closed s ≡ true → readSheet s ≡ readLines (lines s)
-      unfolding readSheet
-      sheet-lines e = rw (le-ltb _ _ h, lt-leb _ _ f, e)
+    pub sheet-lines : spoiltLine s ≡ 0 → readSheet s ≡ readLines (lines s)
+    unfolding readSheet
+    sheet-lines f = rw (le-ltb _ _ h) (text-whole refused s (readLines (lines s)) f)

@@ -10,9 +10,7 @@ use read_line::Phase;
 use read_messages::read_messages;
 use read_program::first_far;
 use read_program::read_commands;
-use read_text::count_byte;
-use read_text::forbidden_line;
-use read_text::is_closed;
+use read_text::spoilt_line;
 use read_turns::read_turns;
 ghost use mathlib.Core.Path.{_≡_};
 ghost use Prim.Native.Nat.{_+_, _≤_};
@@ -150,13 +148,9 @@ pub fn read_sheet(s: &[u8]) -> Read
     if MOST_BYTES < s.len() {
         return refuse(1, 0);
     }
-    let n = forbidden_line(s);
+    let n = spoilt_line(s);
     if n != 0 {
         return refuse(2, n as u32);
-    }
-    if !is_closed(s) {
-        let feeds = count_byte(s, b'\n');
-        return refuse(2, feeds as u32 + 1);
     }
     read_lines(s)
 }

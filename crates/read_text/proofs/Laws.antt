@@ -1,16 +1,17 @@
 -- Laws of the definitions on bytes and numbers, in the form in which a loop over a slice meets them: at a place i of the list s.
 use mathlib.Core.Path.{_≡_, refl, sym, ap, _∙_}
+use mathlib.Core.Logic.{_⊎_, inl, inr}
 use mathlib.Core.List.{List, [], _∷_}
 use mathlib.Core.Bool.{Bool, true, false, cond, _&&_, true≢false}
 use Prim.Native.Nat.{ℕ, suc, _+_, _-_, _*_, _<_, _≤_, pred}
-use native.Mathlib.{Numerals.add-one, Omega.arith}
+use native.Mathlib.{Numerals.add-one, Omega.arith, Decide.decLt}
 use lib.{Dec.eqb, Dec.leb, ListN.length, ListN.getD, ListN.take, ListN.drop, ListN.drop-of-length-le, ListN.length-drop, Seq.drop-cons, Seq.take-all, IntN.pos}
 use lib.{IntN.negsuc}
 use borrow.Author.Tests.{eq-eqb, ne-eqb, leb-true, le-leb, lt-leb}
 use Rattle.model.specs.{Limits.greatestNumber, Limits.leastNumber, Parsed.got, Parsed.refused, Parsed._>>=_, Number.digits, Number.digitsTo, Number.within, Number.upTo}
 use Rattle.model.specs.{Number.fromOne, Number.natural, Number.negative, Number.positive, Number.number, Text.find, Text.count, Text.classOf, Text.between}
-use Rattle.model.specs.{Sheet.forbiddenLine, Sheet.closed}
-use Rattle.read_text.specs.Text.{forbiddenPlace, starts}
+use Rattle.model.specs.{Sheet.forbiddenLine, Sheet.closed, Sheet.overText}
+use Rattle.read_text.specs.Text.{forbiddenPlace, spoiltLine, starts}
 
 -- one byte of what is left
 pub uncons : (s : List ℕ) (i : ℕ) → i < length s → drop i s ≡ getD s i 0 ∷ drop (i + 1) s
@@ -226,6 +227,82 @@ closed-last (b ∷ []) h = refl
 closed-last (b ∷ c ∷ s) h =
     let e : suc (suc (length s)) - 1 ≡ suc (suc (length s) - 1) = omega arith in
     closed-last (c ∷ s) (omega arith) ∙ ap (λ (n : ℕ). eqb (getD (b ∷ c ∷ s) n 0) 10) (sym e)
+
+-- a text that does not end with a line feed has a byte that is none
+open-most : (s : List ℕ) → 1 ≤ length s → closed s ≡ false → count 10 s < length s
+unfolding closed count
+open-most [] h e = absurd (omega arith)
+open-most (b ∷ []) h e = rw e (omega arith)
+open-most (b ∷ c ∷ s) h e = go (eqb b 10) (open-most (c ∷ s) (omega arith) e)
+  where
+    go : (t : Bool) → count 10 (c ∷ s) < length (c ∷ s) → cond t (suc (count 10 (c ∷ s))) (count 10 (c ∷ s)) < suc (length (c ∷ s))
+    go true h = omega arith
+    go false h = omega arith
+
+-- ---- Refusal 2
+
+-- what a text comes to, by the line that refusal 2 names: refuse tells the refusals, and a is what comes of the text otherwise
+module _ {A : Type 0} (refuse : ℕ → ℕ → A) (s : List ℕ) (a : A) where
+  pub text-spoilt : 1 ≤ spoiltLine s → overText refuse s a ≡ refuse 2 (spoiltLine s)
+  unfolding spoiltLine
+  text-spoilt h = go (leb 1 (forbiddenLine 1 s)) refl (closed s) h
+    where
+      go : (x : Bool) → leb 1 (forbiddenLine 1 s) ≡ x → (y : Bool) → 1 ≤ cond x (forbiddenLine 1 s) (cond y 0 (count 10 s + 1))
+          → cond x (refuse 2 (forbiddenLine 1 s)) (cond y a (refuse 2 (count 10 s + 1))) ≡ refuse 2 (cond x (forbiddenLine 1 s) (cond y 0 (count 10 s + 1)))
+      go true e y h = refl
+      go false e true h = absurd (omega arith)
+      go false e false h = refl
+
+  pub text-whole : spoiltLine s ≡ 0 → overText refuse s a ≡ a
+  unfolding spoiltLine
+  text-whole h = go (leb 1 (forbiddenLine 1 s)) refl (closed s) h
+    where
+      go : (x : Bool) → leb 1 (forbiddenLine 1 s) ≡ x → (y : Bool) → cond x (forbiddenLine 1 s) (cond y 0 (count 10 s + 1)) ≡ 0
+          → cond x (refuse 2 (forbiddenLine 1 s)) (cond y a (refuse 2 (count 10 s + 1))) ≡ a
+      go true e y h = absurd (omega (arith, leb-true 1 (forbiddenLine 1 s) e))
+      go false e true h = refl
+      go false e false h = absurd (omega arith)
+
+forbidden-most : (n : ℕ) (s : List ℕ) → forbiddenLine n s ≤ n + length s
+unfolding forbiddenLine
+forbidden-most n [] = omega arith
+forbidden-most n (b ∷ bs) = go (eqb (classOf b) 10) (eqb b 10) (forbidden-most (n + 1) bs) (forbidden-most n bs)
+  where
+    go : (x y : Bool) → forbiddenLine (n + 1) bs ≤ n + 1 + length bs → forbiddenLine n bs ≤ n + length bs → cond x n (forbiddenLine (cond y (n + 1) n) bs) ≤ n + suc (length bs)
+    go true y h k = omega arith
+    go false true h k = omega arith
+    go false false h k = omega arith
+
+module _ (s : List ℕ) where
+  pub spoilt-forbidden : 1 ≤ forbiddenLine 1 s → spoiltLine s ≡ forbiddenLine 1 s
+  unfolding spoiltLine
+  spoilt-forbidden h = rw (le-leb _ _ h)
+
+  module _ (h : forbiddenLine 1 s ≡ 0) where
+    pub spoilt-none : closed s ≡ true → spoiltLine s ≡ 0
+    unfolding spoiltLine
+    spoilt-none e = rw (h, e)
+
+    pub spoilt-open : closed s ≡ false → spoiltLine s ≡ 1 + count 10 s
+    unfolding spoiltLine
+    spoilt-open e = rw (h, e) (omega arith)
+
+  pub spoilt-most : spoiltLine s ≤ 1 + length s
+  unfolding spoiltLine
+  spoilt-most = go (leb 1 (forbiddenLine 1 s)) (closed s)
+    where
+      go : (x y : Bool) → cond x (forbiddenLine 1 s) (cond y 0 (count 10 s + 1)) ≤ 1 + length s
+      go true y = forbidden-most 1 s
+      go false true = omega arith
+      go false false = omega (arith, count-most 10 s)
+
+  -- the line after the last one is one of as many as there are bytes, or the first
+  pub open-fits : closed s ≡ false → (count 10 s + 1 ≤ length s) ⊎ (length s ≡ 0)
+  open-fits e = go (decLt 0 (length s))
+    where
+      go : Dec (0 < length s) → (count 10 s + 1 ≤ length s) ⊎ (length s ≡ 0)
+      go (yes h) = inl (omega (arith, open-most s h e))
+      go (no h) = inr (omega arith)
 
 -- a number from 1
 pub from-one-bad : (m : ℕ) (s : List ℕ) (r : ℕ) → upTo m s ≡ refused r → fromOne m s ≡ refused r

@@ -9,6 +9,7 @@ use borrow.Author.Tests.{eq-eqb, eqb-true, lt-ltb, le-ltb}
 use Rattle.model.specs.{Parsed.Parsed, Parsed.got, Parsed.refused, Text.find, Text.divide, Text.split, Text.grow, Text.lines, Text.init, Text.same, Phase.after}
 use Rattle.model.specs.{Text.free, Phase.oneMore}
 use Rattle.read_text.specs.Text.{starts}
+use Rattle.read_text.proofs.Laws.{and-both}
 
 -- the lines of a text
 pub split-last : (c : ℕ) (t : List ℕ) → length t ≤ find c t → split c t ≡ t ∷ []
@@ -125,6 +126,13 @@ pub same-refl : (w : List ℕ) → same w w ≡ true
 unfolding same
 same-refl [] = refl
 same-refl (b ∷ bs) = rw (eq-eqb b b refl) (same-refl bs)
+
+pub same-eq : (w u : List ℕ) → same w u ≡ true → w ≡ u
+unfolding same
+same-eq [] [] e = refl
+same-eq [] (y ∷ u) e = absurd (true≢false (sym e))
+same-eq (x ∷ w) [] e = absurd (true≢false (sym e))
+same-eq (x ∷ w) (y ∷ u) e = let b = and-both (eqb x y) (same w u) e in cc (eqb-true x y (b .0), same-eq w u (b .1))
 
 pub after-named : (w v : List ℕ) → free 61 w ≡ true → after w ((w ++ (61 ∷ [])) ++ v) ≡ got v
 unfolding after divide find

@@ -4,7 +4,7 @@ use mathlib.Core.Bool.{Bool, true, false, cond}
 use mathlib.Core.List.{List, [], _∷_, _++_}
 use Prim.Native.Nat.{ℕ, suc}
 use lib.{Dec.eqb, IntN.ℤ}
-use Rattle.model.specs.{Parsed.Parsed, Parsed.got, Parsed.refused, Text.classOf, Text.forbiddenClass, Text.lineFeed, Text.equalsSign, Text.free}
+use Rattle.model.specs.{Parsed.Parsed, Parsed.got, Parsed.refused, Text.classOf, Text.forbiddenClass, Text.lineFeed, Text.equalsSign, Text.free, Sheet.overText}
 use Rattle.read_text.specs.declared.{Natural.Natural, Whole.Whole}
 use Rattle.read_text.specs.declared.Natural.the-variants.{Got, Refused}
 use Rattle.read_text.specs.declared.Whole.the-variants.{Got as WholeGot, Refused as WholeRefused}
@@ -21,6 +21,10 @@ wholeAs (WholeRefused n) = refused n
 unfoldable pub forbiddenPlace : List ℕ → ℕ
 forbiddenPlace [] = 0
 forbiddenPlace (b ∷ bs) = cond (eqb (classOf b) forbiddenClass) 0 (suc (forbiddenPlace bs))
+
+-- the line that refusal 2 names, or 0 where it does not apply
+unfoldable pub spoiltLine : List ℕ → ℕ
+spoiltLine s = overText (λ number line. line) s 0
 
 -- a text starts with another
 unfoldable pub starts : List ℕ → List ℕ → Bool

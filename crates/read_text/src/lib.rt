@@ -12,7 +12,7 @@ ghost use mathlib.Core.Path.{_≡_};
 ghost use Prim.Native.Nat.{_<_};
 ghost use Rattle.model.specs.{Text.classOf, Text.find, Text.count, Number.digitsTo, Number.upTo, Number.fromOne, Number.negative, Number.positive, Number.number};
 ghost use Rattle.model.specs.{Sheet.forbiddenLine, Sheet.closed};
-ghost use Rattle.read_text.specs.Text.{naturalAs, wholeAs, forbiddenPlace, starts};
+ghost use Rattle.read_text.specs.Text.{naturalAs, wholeAs, forbiddenPlace, spoiltLine, starts};
 
 // A number from 0 to a limit, or the number of its refusal.
 pub enum Natural {
@@ -50,7 +50,7 @@ fn forbidden_place(s: &[u8]) -> usize
 }
 
 // The line of the first forbidden byte, or 0 where there is none. The lines before it are counted only once it is found.
-pub fn forbidden_line(s: &[u8]) -> usize
+fn forbidden_line(s: &[u8]) -> usize
     ensures { λ r. ⌜ r ≡ forbiddenLine 1 (now (s .entry)) ⌝ }
 {
     let i = forbidden_place(s);
@@ -84,7 +84,7 @@ pub fn find_byte(s: &[u8], c: u8) -> usize
 }
 
 // How many c there are.
-pub fn count_byte(s: &[u8], c: u8) -> usize
+fn count_byte(s: &[u8], c: u8) -> usize
     ensures { λ r. ⌜ r ≡ count c (now (s .entry)) ⌝ }
 {
     let mut n: usize = 0;
@@ -99,7 +99,7 @@ pub fn count_byte(s: &[u8], c: u8) -> usize
 }
 
 // Whether the last byte is a line feed.
-pub fn is_closed(s: &[u8]) -> bool
+fn is_closed(s: &[u8]) -> bool
     ensures { λ r. ⌜ r ≡ closed (now (s .entry)) ⌝ }
 {
     let n = s.len();
@@ -107,6 +107,21 @@ pub fn is_closed(s: &[u8]) -> bool
         return false;
     }
     s[n - 1] == b'\n'
+}
+
+// The line that refusal 2 names, or 0 where it does not apply: that of the first forbidden byte, or the one after the last line feed where the last byte is
+// none.
+pub fn spoilt_line(s: &[u8]) -> usize
+    ensures { λ r. ⌜ r ≡ spoiltLine (now (s .entry)) ⌝ }
+{
+    let n = forbidden_line(s);
+    if n != 0 {
+        return n;
+    }
+    if is_closed(s) {
+        return 0;
+    }
+    1 + count_byte(s, b'\n')
 }
 
 pub fn starts_with(t: &[u8], p: &[u8]) -> bool

@@ -16,9 +16,9 @@ pub fn write_log(log: &[u8], output: &mut [u8]) -> TextAnswer
     let r = read_log(log);
     let status = r.status;
     match status {
-        Status::Refused(number, line) => TextAnswer {
+        Status::Refused(number, row) => TextAnswer {
             number,
-            line,
+            line: row as usize,
             bytes: 0,
         },
         Status::Got => {

@@ -1,15 +1,37 @@
 -- Numbers of 32 bits, stored one after the other.
-use Prim.Native.Nat.{ℕ, _+_, _*_, _≤_, _<_}
+use Prim.Native.Nat.{ℕ, _+_, _*_, _/_, _%_, _≤_, _<_}
 use native.Mathlib.{Omega.arith, Numerals.add-one}
 use mathlib.Core.Path.{_≡_, refl, sym, ap, ap₂, _∙_}
 use mathlib.Core.List.{List, [], _∷_, _++_, append-assoc, append-nil}
 use lib.{ListN.length, ListN.getD, ListN.take, ListN.length-append, Seq.take-suc, Seq.take-all, Seq.length-take-le}
-use Rattle.model.specs.{Placed.placed, Answer.le32, Answer.allLe32, Answer.bytesFor}
+use Rattle.model.specs.{Placed.placed, Answer.le32, Answer.allLe32, Answer.bytesFor, Written.textNumbers, Written.lowNumbers}
+use Rattle.model.specs.declared.TextAnswer.{TextAnswer}
 use Rattle.model.proofs.Placed.{placed-append, placed-front, front-whole}
 
 le32-length : (n : ℕ) → length (le32 n) ≡ 4
 unfolding le32
 le32-length n = refl
+
+-- a byte of q times 2^32 and r is one of r
+low-byte : (q r n : ℕ) → n ≡ q * 4294967296 + r → (n % 256 ≡ r % 256) × (n / 256 % 256 ≡ r / 256 % 256) × (n / 65536 % 256 ≡ r / 65536 % 256)
+    × (n / 16777216 % 256 ≡ r / 16777216 % 256)
+low-byte q r n e =
+    let b : n / 256 ≡ q * 65536 * 256 + r / 256 = omega arith in
+    let c : n / 65536 ≡ q * 256 * 256 + r / 65536 = omega arith in
+    let d : n / 16777216 ≡ q * 256 + r / 16777216 = omega arith in
+    (omega arith, ap (λ (x : ℕ). x % 256) b ∙ byte (q * 65536) (r / 256), ap (λ (x : ℕ). x % 256) c ∙ byte (q * 256) (r / 65536), ap (λ (x : ℕ). x % 256) d ∙ byte q (r / 16777216))
+  where
+    byte : (y x : ℕ) → (y * 256 + x) % 256 ≡ x % 256
+    byte y x = omega arith
+
+-- the four bytes of a number say as much of it as 32 bits hold
+le32-low : (n : ℕ) → le32 (n % 4294967296) ≡ le32 n
+unfolding le32
+le32-low n = let h = low-byte (n / 4294967296) (n % 4294967296) n (omega arith) in rw (h .0, h .1, h .2, h .3)
+
+pub low-bytes : (a : TextAnswer) → allLe32 (lowNumbers a) ≡ allLe32 (textNumbers a)
+unfolding allLe32
+low-bytes a = ap (λ (l : List ℕ). le32 (a .number) ++ (l ++ (le32 (a .bytes) ++ []))) (le32-low (a .line))
 
 all-append : (ns : List ℕ) (n : ℕ) → allLe32 (ns ++ (n ∷ [])) ≡ allLe32 ns ++ le32 n
 unfolding allLe32

@@ -7,7 +7,7 @@ use model::TextAnswer;
 ghost use mathlib.Core.Path.{_≡_};
 ghost use Prim.Native.Nat.{_+_, _≤_};
 ghost use lib.ListN.{length};
-ghost use Rattle.model.specs.{Placed.placed, Answer.numbersOf, Answer.endingNumber, Answer.le32, Answer.allLe32, Answer.bytesFor, Written.textNumbers};
+ghost use Rattle.model.specs.{Placed.placed, Answer.numbersOf, Answer.endingNumber, Answer.le32, Answer.allLe32, Answer.bytesFor, Written.lowNumbers};
 
 fn ending_number(e: Ending) -> u32
     ensures { λ r. ⌜ r ≡ endingNumber e ⌝ }
@@ -39,11 +39,11 @@ pub fn numbers(a: Answer) -> [u32; NUMBERS]
     }
 }
 
-// The three numbers of the answer to the writing of a text.
+// The three numbers of the answer to the writing of a text, each as much of it as 32 bits hold.
 pub fn text_numbers(a: TextAnswer) -> [u32; TEXT_NUMBERS]
-    ensures { λ r. ⌜ r ≡ textNumbers a ⌝ }
+    ensures { λ r. ⌜ r ≡ lowNumbers a ⌝ }
 {
-    [a.number, a.line, a.bytes]
+    [a.number, (a.line % 4294967296) as u32, a.bytes]
 }
 
 // Stores x in four bytes from the place at on, low byte first.

@@ -1,17 +1,14 @@
 -- What was read lies within the buffer.
 use Prim.Native.Nat.{_≤_}
-use mathlib.Core.Path.{sym, subst}
+use mathlib.Core.Path.{sym}
 use borrow.Author.Needs.{needs}
 use lib.{ListN.length, Seq.length-take-le}
-use Rattle.input.specs.Text.{WithinBuffer}
-use Rattle.input.specs.declared.Text.{Text}
+use Rattle.input.proofs.Laws.{got-within}
 use Rattle.beltlog.proofs.main.Statement.{statement}
 use Rattle.beltlog.proofs.main.Tie as tie
 
-within : (c : tie.After-known-told) → c .before .n .given .0 .0 ≤ length (c .before .before .before .before .read-text .last .0)
-within c =
-    let r = c .before .before .before .before in
-    subst (λ (t : Text). WithinBuffer t (length (r .read-text .last .0))) (c .before .n .given .1) (r .read-text .ensures)
+within : (c : tie.After-known-told) → c .before .n .given .0 .0 ≤ length (c .before .before .before .before .text-argument .last .0)
+within c = let r = c .before .before .before .before in got-within _ _ _ (c .before .n .given .1) (r .text-argument .ensures)
 
 pub main-spec : {M : Type 1} → statement M
 main-spec =

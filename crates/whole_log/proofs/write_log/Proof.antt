@@ -70,7 +70,7 @@ pub write-log-spec : {M : Type 1} → statement M
 write-log-spec =
     tie.close
     (tie.spec
-    (λ c κs. search needs) (λ c. search needs) (λ c. search needs) (λ c. search needs)
+    (λ c κs. search needs) (λ c. search needs) (λ c. search needs) (λ c. search needs) (λ c. search needs)
     (λ c κs. let t = c .before .before in (omega arith, readOf t .read-log .ensures .few, record { near = near t; fits = inl refl }))
     returns
     (λ c κs.
