@@ -1,5 +1,6 @@
--- The laws of the entries, the three demands, and the claims of Note 1.
+-- The laws of the entries, the three demands, and the claims of Notes 1 and 5.
 pub mod Laws
 pub mod Demands
 pub mod Texts
 pub mod Log
+pub mod Blocks

@@ -4,6 +4,7 @@ use mathlib.Core.Path.{_≡_}
 use mathlib.Core.List.{List}
 use Rattle.model.specs.Answer.{After, runEntry}
 use Rattle.model_log.specs.Log.{logEntry}
+use Rattle.model_blocks.specs.Dialect.{blocksEntry}
 
 -- a call that comes to x
 pub record Leaves (x : After) (returned : ℕ) (output′ answer′ : List ℕ) : Type 0 where
@@ -18,3 +19,7 @@ Answered sheet output answer returned output′ answer′ = Leaves (runEntry she
 -- `pavebox_csv`
 abbrev pub LogAnswered : List ℕ → List ℕ → List ℕ → ℕ → List ℕ → List ℕ → Type 0
 LogAnswered log output answer returned output′ answer′ = Leaves (logEntry log output answer) returned output′ answer′
+
+-- `pavebox_blocks`
+abbrev pub BlocksAnswered : List ℕ → ℕ → List ℕ → List ℕ → ℕ → List ℕ → List ℕ → Type 0
+BlocksAnswered text keys output answer returned output′ answer′ = Leaves (blocksEntry keys text output answer) returned output′ answer′

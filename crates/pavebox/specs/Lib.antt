@@ -2,3 +2,4 @@ pub mod Entry
 pub mod Demands
 pub mod Texts
 pub mod Log
+pub mod Blocks

@@ -2,6 +2,7 @@
 use model::ANSWER_BYTES;
 use model::TEXT_ANSWER_BYTES;
 use model::TextAnswer;
+use whole_blocks::write_blocks;
 use whole_log::write_log;
 use whole_sheet::run_sheet;
 use write_answer::numbers;
@@ -10,10 +11,12 @@ use write_answer::text_numbers;
 ghost use mathlib.Core.Path.{_≡_};
 ghost use lib.ListN.{length};
 ghost use Rattle.model.specs.{Answer.allLe32, Answer.bytesFor, Written.textNumbers, Written.textNumberCount};
-ghost use Rattle.pavebox.specs.Entry.{Answered, LogAnswered};
+ghost use Rattle.pavebox.specs.Entry.{Answered, LogAnswered, BlocksAnswered};
 
-// The answer memory, as the header names it.
+// The answer memories, as the header names them.
 const CSV_ANSWER_BYTES: usize = TEXT_ANSWER_BYTES;
+
+const BLOCKS_ANSWER_BYTES: usize = TEXT_ANSWER_BYTES;
 
 // An answer memory of another length than 28 bytes gets 10, and nothing is written; else the sheet is run on the output memory, the seven numbers go
 // into the answer memory, and the first of them is returned.
@@ -50,5 +53,23 @@ pub extern "C" fn pavebox_csv(log: &[u8], output: &mut [u8], answer: &mut [u8]) 
         return 10;
     }
     let a = write_log(log, output);
+    put_text_answer(answer, a)
+}
+
+// An answer memory of another length than 12 bytes gets 10, and nothing is written; else the `do` lines of the program with blocks for so many keys go into the
+// output memory, the three numbers go into the answer memory, and the first of them is returned.
+#[no_mangle]
+pub extern "C" fn pavebox_blocks(
+    text: &[u8],
+    keys: u32,
+    output: &mut [u8],
+    answer: &mut [u8],
+) -> u32
+    ensures { λ r. ⌜ BlocksAnswered (now (text .entry)) keys (now (output .entry)) (now (answer .entry)) r (now (output .exit)) (now (answer .exit)) ⌝ }
+{
+    if answer.len() != BLOCKS_ANSWER_BYTES {
+        return 10;
+    }
+    let a = write_blocks(text, keys, output);
     put_text_answer(answer, a)
 }
