@@ -9,7 +9,7 @@ pub mod log;
 mod programs;
 
 use crate::model::{
-    read, run, Command, Job, Level, LENT, MOST_COMMANDS, MOST_KEYS, MOST_MESSAGES, MOST_TURNS,
+    read, run, words, Job, Level, LENT, MOST_COMMANDS, MOST_KEYS, MOST_MESSAGES, MOST_TURNS,
 };
 
 /// A small generator of pseudo-random numbers (splitmix64).
@@ -337,25 +337,4 @@ fn entries(message: &[Option<i32>]) -> String {
     let part = |(key, entry): (usize, &Option<i32>)| entry.map(|value| format!("{key}:{value}"));
     let parts: Vec<String> = message.iter().enumerate().filter_map(part).collect();
     parts.join(",")
-}
-
-/// The words of a command.
-fn words(command: Command) -> String {
-    match command {
-        Command::Set(v, n) => format!("set {v} {n}"),
-        Command::Add(v, w) => format!("add {v} {w}"),
-        Command::Sub(v, w) => format!("sub {v} {w}"),
-        Command::Mul(v, w) => format!("mul {v} {w}"),
-        Command::Div(v, w) => format!("div {v} {w}"),
-        Command::Read(v, k) => format!("read {v} {k}"),
-        Command::Has(v, k) => format!("has {v} {k}"),
-        Command::Put(k, v) => format!("put {k} {v}"),
-        Command::Drop(k) => format!("drop {k}"),
-        Command::IfNeg(v, t) => format!("ifneg {v} {t}"),
-        Command::IfZero(v, t) => format!("ifzero {v} {t}"),
-        Command::Jump(t) => format!("jump {t}"),
-        Command::Receive => "receive".to_string(),
-        Command::Send => "send".to_string(),
-        Command::Stop => "stop".to_string(),
-    }
 }

@@ -7,6 +7,8 @@
 //!
 //! - [`model`] reads a sheet and runs it, in the order of the document's text.
 //! - [`log`] makes `msg` lines out of the export of a belt log.
+//! - [`blocks`] makes `do` lines out of a program with blocks, for Note 5, and [`block_run`] runs such
+//!   a program as it stands.
 //! - [`plain`] runs one execution alone, and says which programs are honest, for Note 4.
 //! - [`generate`] makes random sheets from a seed: accepted, damaged, noisy, and pairs that differ
 //!   only in their secrets. [`generate::log`] makes random exports, [`generate::honest`] jobs whose
@@ -15,6 +17,8 @@
 //!   of Note 2 in [`corners::calls`], those of Note 3 in [`corners::clamps`], those of Note 4 in
 //!   [`corners::honest`]; [`corners::log`] has exports with their lines.
 
+pub mod block_run;
+pub mod blocks;
 pub mod corners;
 pub mod generate;
 pub mod log;

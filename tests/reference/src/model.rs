@@ -195,15 +195,20 @@ fn check_bytes(sheet: &[u8]) -> Result<(), Refusal> {
     if sheet.len() > MOST_BYTES {
         return Err(Refusal { number: 1, line: 0 });
     }
+    check_text(sheet)
+}
+
+/// Refusal 2, of a sheet and of every other text of lines.
+pub(crate) fn check_text(text: &[u8]) -> Result<(), Refusal> {
     // 2: "a byte that is neither 10 nor 32 to 126 (its line, the first such)".
     let forbidden = |&byte: &u8| class(byte) == Class::Forbidden;
-    if let Some(place) = sheet.iter().position(forbidden) {
-        let line = line_feeds(&sheet[..place]) + 1;
+    if let Some(place) = text.iter().position(forbidden) {
+        let line = line_feeds(&text[..place]) + 1;
         return Err(Refusal { number: 2, line });
     }
     // 2: "else the last byte is not 10, or the sheet is empty (line = line feeds + 1)".
-    if sheet.last() != Some(&LINE_FEED) {
-        let line = line_feeds(sheet) + 1;
+    if text.last() != Some(&LINE_FEED) {
+        let line = line_feeds(text) + 1;
         return Err(Refusal { number: 2, line });
     }
     Ok(())
@@ -214,8 +219,8 @@ fn line_feeds(bytes: &[u8]) -> u32 {
 }
 
 /// "Each line ends with a line feed (byte 10)." The line feed is not part of the text handed on.
-fn lines(sheet: &[u8]) -> Vec<&[u8]> {
-    let mut lines: Vec<&[u8]> = sheet.split(|&byte| byte == LINE_FEED).collect();
+pub(crate) fn lines(text: &[u8]) -> Vec<&[u8]> {
+    let mut lines: Vec<&[u8]> = text.split(|&byte| byte == LINE_FEED).collect();
     // What stands after the last line feed is no line; after refusal 2 it is empty.
     lines.pop();
     lines
@@ -409,7 +414,7 @@ pub(crate) fn small(text: &[u8], lowest: usize, highest: usize) -> Result<usize,
 }
 
 /// "v and w are variables 0 to 7".
-fn variable(text: &[u8]) -> Result<usize, u32> {
+pub(crate) fn variable(text: &[u8]) -> Result<usize, u32> {
     small(text, 0, VARIABLES - 1)
 }
 
@@ -478,14 +483,13 @@ fn turns(rest: &[u8]) -> Result<Vec<Level>, u32> {
 // Commands
 // ---------------------------------------------------------------------------------------------
 
-/// The words of a command. "A command is tested for 6 and then for 4 from left to right."
+/// A command from its words. "A command is tested for 6 and then for 4 from left to right."
 ///
 /// 6: "a command word is not in the table, or the count of parts is wrong; every space splits".
 /// Reading: the word is a part too, and a part may be empty; so `stop` with a space after it has
 /// two parts and gets 6, and `set 0 ` has three parts, of which the last is no number, and gets 4.
-fn command(text: &[u8], keys: usize) -> Result<Command, u32> {
-    let parts: Vec<&[u8]> = text.split(|&byte| byte == b' ').collect();
-    let command = match parts.as_slice() {
+pub(crate) fn command(text: &[u8], keys: usize) -> Result<Command, u32> {
+    let command = match parts(text).as_slice() {
         [b"set", v, n] => Command::Set(variable(v)?, value(n)?),
         [b"add", v, w] => Command::Add(variable(v)?, variable(w)?),
         [b"sub", v, w] => Command::Sub(variable(v)?, variable(w)?),
@@ -504,6 +508,32 @@ fn command(text: &[u8], keys: usize) -> Result<Command, u32> {
         _ => return Err(6),
     };
     Ok(command)
+}
+
+/// "every space splits".
+pub(crate) fn parts(text: &[u8]) -> Vec<&[u8]> {
+    text.split(|&byte| byte == b' ').collect()
+}
+
+/// The words of a command.
+pub(crate) fn words(command: Command) -> String {
+    match command {
+        Command::Set(v, n) => format!("set {v} {n}"),
+        Command::Add(v, w) => format!("add {v} {w}"),
+        Command::Sub(v, w) => format!("sub {v} {w}"),
+        Command::Mul(v, w) => format!("mul {v} {w}"),
+        Command::Div(v, w) => format!("div {v} {w}"),
+        Command::Read(v, k) => format!("read {v} {k}"),
+        Command::Has(v, k) => format!("has {v} {k}"),
+        Command::Put(k, v) => format!("put {k} {v}"),
+        Command::Drop(k) => format!("drop {k}"),
+        Command::IfNeg(v, t) => format!("ifneg {v} {t}"),
+        Command::IfZero(v, t) => format!("ifzero {v} {t}"),
+        Command::Jump(t) => format!("jump {t}"),
+        Command::Receive => "receive".to_string(),
+        Command::Send => "send".to_string(),
+        Command::Stop => "stop".to_string(),
+    }
 }
 
 /// What one of `add`, `sub`, `mul` and `div` gives. Note 3: each "shall say whether its exact result
@@ -573,7 +603,7 @@ fn quotient(v: i32, w: i32) -> Outcome {
 #[derive(Clone, Copy)]
 pub(crate) struct Execution {
     pub(crate) place: usize,
-    variables: [i32; VARIABLES],
+    pub(crate) variables: [i32; VARIABLES],
     clamped: usize,
 }
 

@@ -6,7 +6,8 @@
 //! Words between quotation marks are the note's own. A comment that begins with "Reading:" names the
 //! reading taken where the text leaves a choice, or seems to leave one.
 
-use crate::model::{sent_line, step, Command, Job, Level, FIRST, MOST_TURNS};
+use crate::model::{sent_line, step, Command, Execution, Job, Level, FIRST, MOST_TURNS, VARIABLES};
+use std::slice::Iter;
 
 /// "Take N from 1 to 512": so many steps have a turn for each of the two executions.
 pub const MOST_STEPS: usize = MOST_TURNS / 2;
@@ -36,33 +37,82 @@ pub fn steps_of(job: &Job) -> Option<usize> {
     (all && (1..=MOST_STEPS).contains(&steps)).then_some(steps)
 }
 
-/// "Call it a plain run when one execution works alone, with one field to a key". Its first steps, as
-/// many as are asked for; the turns of the job and its secret keys do not count.
-pub fn plain_run(job: &Job, messages: &Lines, steps: usize) -> Vec<Step> {
-    let end = job.commands.len();
-    let mut execution = FIRST;
-    // Reading: as in document 01, "All fields are absent at first", and a plain run has no others.
-    let mut fields = vec![None; job.keys];
-    let mut left = messages.iter();
-    let mut done = Vec::new();
-    for _ in 0..steps {
-        let Some(&command) = job.commands.get(execution.place) else {
-            done.push(Step::Stopped);
-            continue;
-        };
-        done.push(match command {
-            Command::Receive => {
-                // Reading: the message as it stands in the line, an entry or absent at each key; with
-                // no line left, as in document 01, "every field becomes absent".
-                fields = left.next().cloned().unwrap_or(vec![None; job.keys]);
-                Step::Receives
-            }
-            Command::Send => Step::Sends(fields.clone()),
-            _ => Step::Works,
-        });
-        execution = step(execution, command, &mut fields, end);
+/// What there is to see of an execution that works alone, before its next step.
+#[derive(Debug, Clone, PartialEq, Eq)]
+pub struct Seen {
+    pub variables: [i32; VARIABLES],
+    pub fields: Vec<Option<i32>>,
+    pub stopped: bool,
+}
+
+/// A plain run, step by step: "Call it a plain run when one execution works alone, with one field to a
+/// key". The turns of the job and its secret keys do not count.
+pub struct Plain<'a> {
+    commands: &'a [Command],
+    execution: Execution,
+    fields: Vec<Option<i32>>,
+    /// The message lines that are left.
+    left: Iter<'a, Vec<Option<i32>>>,
+}
+
+impl<'a> Plain<'a> {
+    pub fn new(job: &'a Job, messages: &'a Lines) -> Plain<'a> {
+        Plain {
+            commands: &job.commands,
+            execution: FIRST,
+            // Reading: as in document 01, "All fields are absent at first", and a plain run has no
+            // others.
+            fields: vec![None; job.keys],
+            left: messages.iter(),
+        }
     }
-    done
+
+    pub fn seen(&self) -> Seen {
+        Seen {
+            variables: self.execution.variables,
+            fields: self.fields.clone(),
+            stopped: self.execution.place >= self.commands.len(),
+        }
+    }
+
+    /// The place of the next command.
+    pub fn place(&self) -> usize {
+        self.execution.place
+    }
+
+    pub fn step(&mut self) -> Step {
+        let Some(&command) = self.commands.get(self.execution.place) else {
+            return Step::Stopped;
+        };
+        let done = called(command, &mut self.fields, &mut self.left);
+        let end = self.commands.len();
+        self.execution = step(self.execution, command, &mut self.fields, end);
+        done
+    }
+}
+
+/// What a command does as a call, to the fields of an execution that works alone.
+pub(crate) fn called(
+    command: Command,
+    fields: &mut Vec<Option<i32>>,
+    left: &mut Iter<Vec<Option<i32>>>,
+) -> Step {
+    match command {
+        Command::Receive => {
+            // Reading: the message as it stands in the line, an entry or absent at each key; with no
+            // line left, as in document 01, "every field becomes absent".
+            *fields = left.next().cloned().unwrap_or(vec![None; fields.len()]);
+            Step::Receives
+        }
+        Command::Send => Step::Sends(fields.clone()),
+        _ => Step::Works,
+    }
+}
+
+/// The first steps of a plain run, as many as are asked for.
+pub fn plain_run(job: &Job, messages: &Lines, steps: usize) -> Vec<Step> {
+    let mut plain = Plain::new(job, messages);
+    (0..steps).map(|_| plain.step()).collect()
 }
 
 /// "the same messages where every secret key of each message line holds its dummy". Reading: also
