@@ -2,6 +2,7 @@
 //! otherwise. Nothing here was computed by the model: the expected texts were worked out from the
 //! documents.
 
+pub mod blocks;
 pub mod calls;
 pub mod clamps;
 pub mod honest;

@@ -15,7 +15,8 @@
 //!   programs are often honest.
 //! - [`corners`] lists hand-written sheets with the text that the documents demand for each, those
 //!   of Note 2 in [`corners::calls`], those of Note 3 in [`corners::clamps`], those of Note 4 in
-//!   [`corners::honest`]; [`corners::log`] has exports with their lines.
+//!   [`corners::honest`]; [`corners::log`] has exports with their lines, [`corners::blocks`] programs
+//!   with blocks and theirs.
 
 pub mod block_run;
 pub mod blocks;
