@@ -3,6 +3,8 @@
 //! The same seed gives the same sheets on every machine. Accepted sheets are made as a [`Job`] and
 //! then written out by [`sheet_of`]; damaged ones begin as accepted ones.
 
+pub mod block_damage;
+pub mod blocks;
 mod damage;
 pub mod honest;
 pub mod log;

@@ -12,7 +12,8 @@
 //! - [`plain`] runs one execution alone, and says which programs are honest, for Note 4.
 //! - [`generate`] makes random sheets from a seed: accepted, damaged, noisy, and pairs that differ
 //!   only in their secrets. [`generate::log`] makes random exports, [`generate::honest`] jobs whose
-//!   programs are often honest.
+//!   programs are often honest, [`generate::blocks`] and [`generate::block_damage`] programs with
+//!   blocks.
 //! - [`corners`] lists hand-written sheets with the text that the documents demand for each, those
 //!   of Note 2 in [`corners::calls`], those of Note 3 in [`corners::clamps`], those of Note 4 in
 //!   [`corners::honest`]; [`corners::log`] has exports with their lines, [`corners::blocks`] programs
