@@ -1,6 +1,6 @@
 /*
- * The confidential run of one sheet: two executions, one message; and the msg lines of a sheet out
- * of the export of a belt log. Link with libpavebox.a.
+ * The confidential run of one sheet: two executions, one message; the msg lines of a sheet out of the
+ * export of a belt log; and its do lines out of a program with blocks. Link with libpavebox.a.
  */
 #ifndef PAVEBOX_H
 #define PAVEBOX_H
@@ -96,7 +96,7 @@ static inline struct pavebox_answer pavebox_read_answer(const uint8_t *answer)
  * PAVEBOX_NO_ROOM_FOR_LINES never occurs. */
 #define PAVEBOX_MOST_CSV_OUTPUT_BYTES 3712u
 
-/* The export was accepted, and its lines are in the output memory. */
+/* The export was accepted, or the program, and its lines are in the output memory. */
 #define PAVEBOX_WRITTEN 0u
 
 /* Refusals of an export: the output memory is untouched. PAVEBOX_TOO_MANY (a 33rd message) and
@@ -137,6 +137,60 @@ static inline struct pavebox_csv_answer pavebox_read_csv_answer(const uint8_t *a
     struct pavebox_csv_answer numbers;
     numbers.number = pavebox_read_number(answer);
     numbers.row = pavebox_read_number(answer + 4);
+    numbers.written = pavebox_read_number(answer + 8);
+    return numbers;
+}
+
+/* The answer memory of pavebox_blocks has exactly this many bytes. */
+#define PAVEBOX_BLOCKS_ANSWER_BYTES 12u
+
+/* No program gives more than this: 64 lines of 21 bytes. With this much output memory, or more,
+ * PAVEBOX_NO_ROOM_FOR_COMMANDS occurs for more than 64 commands only. */
+#define PAVEBOX_MOST_BLOCKS_OUTPUT_BYTES 1344u
+
+/* Refusals of a program: the output memory is untouched. PAVEBOX_BAD_BYTE, PAVEBOX_BAD_NUMBER (at line
+ * 0: the count of keys), PAVEBOX_BAD_COMMAND and PAVEBOX_BAD_ANSWER (the answer memory is not exactly
+ * 12 bytes) are further ones. Success is PAVEBOX_WRITTEN. */
+#define PAVEBOX_BAD_BLOCK 51u            /* an else not directly in the first body of an if, an end
+                                            outside blocks, or a missing end */
+#define PAVEBOX_TOO_DEEP 52u             /* a ninth level of blocks */
+#define PAVEBOX_NO_ROOM_FOR_COMMANDS 53u /* more than 64 commands, or the output memory is shorter
+                                            than the lines */
+
+/*
+ * Makes the do lines of a sheet out of a program with blocks: if, else, while and end in place of
+ * jumps.
+ *
+ * text, text_len      the program's bytes, which are only read. Any bytes will do, and any number.
+ * keys                the count of keys of the sheet that the lines are for, from 1 to 8.
+ * output, output_len  the output memory. The lines go to its start, one after the other; behind
+ *                     them, and everywhere if the program is refused, it keeps its bytes.
+ * answer, answer_len  the answer memory: 12 bytes for three numbers, see
+ *                     pavebox_read_blocks_answer.
+ *
+ * Returns PAVEBOX_WRITTEN or the refusal, which is also the first of the three numbers. If
+ * answer_len is not 12 it returns PAVEBOX_BAD_ANSWER and writes nothing.
+ *
+ * The caller's duties are those of pavebox_run.
+ */
+uint32_t pavebox_blocks(const uint8_t *text, size_t text_len, uint32_t keys,
+                        uint8_t *output, size_t output_len,
+                        uint8_t *answer, size_t answer_len);
+
+/* The three numbers of an answer of pavebox_blocks. */
+struct pavebox_blocks_answer {
+    uint32_t number;  /* PAVEBOX_WRITTEN or a refusal, as above */
+    uint32_t line;    /* the line that is refused, from 1; 0 if there is none. Of a line beyond
+                         4,294,967,295 the low 32 bits */
+    uint32_t written; /* bytes of do lines at the start of the output memory */
+};
+
+/* The three numbers from the 12 bytes that pavebox_blocks has filled. */
+static inline struct pavebox_blocks_answer pavebox_read_blocks_answer(const uint8_t *answer)
+{
+    struct pavebox_blocks_answer numbers;
+    numbers.number = pavebox_read_number(answer);
+    numbers.line = pavebox_read_number(answer + 4);
     numbers.written = pavebox_read_number(answer + 8);
     return numbers;
 }

@@ -19,6 +19,16 @@
 //! assert_eq!((answer.number, answer.written), (pavebox::WRITTEN, 20));
 //! assert_eq!(&output[..20], b"msg=0:1500\nmsg=3:-5\n");
 //! ```
+//!
+//! [`blocks`] makes the `do` lines of a sheet with so many keys out of a program with blocks:
+//!
+//! ```
+//! let program = b"receive\nhas 0 0\nif 0\nsend\nend\n";
+//! let mut output = [0; pavebox::MOST_BLOCKS_OUTPUT_BYTES];
+//! let answer = pavebox::blocks(program, 1, &mut output);
+//! assert_eq!((answer.number, answer.written), (pavebox::WRITTEN, 44));
+//! assert_eq!(&output[..44], b"do=receive\ndo=has 0 0\ndo=ifzero 0 4\ndo=send\n");
+//! ```
 
 /// The bytes of an answer.
 pub const ANSWER_BYTES: usize = 28;
@@ -28,8 +38,9 @@ pub const STOPPED: u32 = 0;
 pub const LETTERS_USED: u32 = 31;
 /// The ending of a run whose output memory has no room for the next line.
 pub const NO_ROOM: u32 = 32;
-/// What [`entry`] returns if the answer memory is not exactly [`ANSWER_BYTES`] long, and
-/// [`csv_entry`] if it is not exactly [`CSV_ANSWER_BYTES`] long.
+/// What [`entry`] returns if the answer memory is not exactly [`ANSWER_BYTES`] long, [`csv_entry`] if
+/// it is not exactly [`CSV_ANSWER_BYTES`] long, and [`blocks_entry`] if it is not exactly
+/// [`BLOCKS_ANSWER_BYTES`] long.
 pub const BAD_ANSWER: u32 = 10;
 
 /// The bytes of an answer of [`csv_entry`].
@@ -37,7 +48,7 @@ pub const CSV_ANSWER_BYTES: usize = 12;
 /// No export gives more bytes of lines. With so much output memory [`NO_ROOM_FOR_LINES`] never
 /// occurs.
 pub const MOST_CSV_OUTPUT_BYTES: usize = 3_712;
-/// The number of an export whose lines are in the output memory.
+/// The number of an export, or of a program with blocks, whose lines are in the output memory.
 pub const WRITTEN: u32 = 0;
 /// The refusal of an export with a 33rd message.
 pub const TOO_MANY: u32 = 8;
@@ -48,6 +59,26 @@ pub const BAD_ROW: u32 = 41;
 pub const BAD_FIELD: u32 = 42;
 /// The refusal of an export whose lines are longer than the output memory.
 pub const NO_ROOM_FOR_LINES: u32 = 43;
+
+/// The bytes of an answer of [`blocks_entry`].
+pub const BLOCKS_ANSWER_BYTES: usize = 12;
+/// No program with blocks gives more bytes of lines. With so much output memory
+/// [`NO_ROOM_FOR_COMMANDS`] occurs for more than 64 commands only.
+pub const MOST_BLOCKS_OUTPUT_BYTES: usize = 1_344;
+/// The refusal of a program with a forbidden byte, without a line feed at its end, or of none at all.
+pub const BAD_BYTE: u32 = 2;
+/// The refusal of a program with a bad number, and, at line 0, of a count of keys beyond 1 to 8.
+pub const BAD_NUMBER: u32 = 4;
+/// The refusal of a program with a word that is no command, or with a wrong count of parts.
+pub const BAD_COMMAND: u32 = 6;
+/// The refusal of a program with an `else` that is not directly in the first body of an `if`, with an
+/// `end` outside blocks, or with a missing `end`.
+pub const BAD_BLOCK: u32 = 51;
+/// The refusal of a program with a ninth level of blocks.
+pub const TOO_DEEP: u32 = 52;
+/// The refusal of a program with more than 64 commands, or whose lines are longer than the output
+/// memory.
+pub const NO_ROOM_FOR_COMMANDS: u32 = 53;
 
 mod archive {
     /// An entry of the archive: bytes that are read, the output memory and the answer memory.
@@ -66,6 +97,16 @@ mod archive {
         pub fn pavebox_csv(
             log: *const u8,
             log_len: usize,
+            output: *mut u8,
+            output_len: usize,
+            answer: *mut u8,
+            answer_len: usize,
+        ) -> u32;
+
+        pub fn pavebox_blocks(
+            text: *const u8,
+            text_len: usize,
+            keys: u32,
             output: *mut u8,
             output_len: usize,
             answer: *mut u8,
@@ -149,6 +190,33 @@ impl CsvAnswer {
     }
 }
 
+/// The three numbers of a program with blocks.
+#[derive(Debug, Clone, Copy, PartialEq, Eq)]
+pub struct BlocksAnswer {
+    /// 0 if the lines were written, else the refusal: 2, 4, 6, 51, 52 or 53.
+    pub number: u32,
+    /// The line that is refused, from 1; 0 if there is none.
+    pub line: u32,
+    /// Bytes of `do` lines at the start of the output memory.
+    pub written: u32,
+}
+
+impl BlocksAnswer {
+    /// The three numbers out of an answer memory, where each has 32 bits, low byte first.
+    pub fn from_bytes(bytes: &[u8; BLOCKS_ANSWER_BYTES]) -> BlocksAnswer {
+        BlocksAnswer {
+            number: number(bytes, 0),
+            line: number(bytes, 1),
+            written: number(bytes, 2),
+        }
+    }
+
+    /// The three numbers in their order.
+    pub fn numbers(&self) -> [u32; 3] {
+        [self.number, self.line, self.written]
+    }
+}
+
 /// One number of an answer memory, by its place among them.
 fn number(bytes: &[u8], place: usize) -> u32 {
     let byte = |place: usize| u32::from(bytes[place]);
@@ -185,7 +253,33 @@ pub fn csv_entry(log: &[u8], output: &mut [u8], answer: &mut [u8]) -> u32 {
     call(archive::pavebox_csv, log, output, answer)
 }
 
-/// Calls an entry of the archive, one of the two above.
+/// Makes the `do` lines of a sheet with so many keys out of a program with blocks. The lines are at
+/// the start of `output`; behind them, and everywhere if the program is refused, `output` keeps its
+/// bytes.
+pub fn blocks(text: &[u8], keys: u32, output: &mut [u8]) -> BlocksAnswer {
+    let mut answer = [0; BLOCKS_ANSWER_BYTES];
+    blocks_entry(text, keys, output, &mut answer);
+    BlocksAnswer::from_bytes(&answer)
+}
+
+/// The same as a C program has it. It fills `answer` and returns the first of the three numbers; if
+/// `answer` is not exactly [`BLOCKS_ANSWER_BYTES`] long it returns [`BAD_ANSWER`] and writes nothing.
+pub fn blocks_entry(text: &[u8], keys: u32, output: &mut [u8], answer: &mut [u8]) -> u32 {
+    // SAFETY: As for the other entries, in `call`. A number beside them has no duty.
+    unsafe {
+        archive::pavebox_blocks(
+            text.as_ptr(),
+            text.len(),
+            keys,
+            output.as_mut_ptr(),
+            output.len(),
+            answer.as_mut_ptr(),
+            answer.len(),
+        )
+    }
+}
+
+/// Calls an entry of the archive that has three memories and nothing beside them.
 fn call(entry: archive::Entry, input: &[u8], output: &mut [u8], answer: &mut [u8]) -> u32 {
     // SAFETY: Each pointer and length are those of a slice, so the bytes are there to be read, and
     // those of `output` and `answer` to be written, during the call. The two are borrowed mutably,
@@ -336,6 +430,87 @@ mod tests {
             let (mut output, mut answer) = ([b'~'; 27], vec![b'~'; length]);
             assert_eq!(csv_entry(EXPORT, &mut output, &mut answer), BAD_ANSWER);
             assert_eq!((output, answer), ([b'~'; 27], vec![b'~'; length]));
+        }
+    }
+
+    /// A choice in a loop.
+    const PROGRAM: &[u8] = b"while 0\nif 1\nelse\nset 0 1\nend\nend\n";
+    const DO_LINES: &[u8] = b"do=ifzero 0 5\ndo=ifzero 1 3\ndo=jump 4\ndo=set 0 1\ndo=jump 0\n";
+
+    #[test]
+    fn lines_of_a_program_stand_at_the_start_of_the_output() {
+        let mut output = [b'~'; 62];
+        assert_eq!(blocks(PROGRAM, 1, &mut output).numbers(), [WRITTEN, 0, 59]);
+        assert_eq!(output, [DO_LINES, b"~~~"].concat().as_slice());
+    }
+
+    #[test]
+    fn each_number_of_a_program_has_its_name_and_place() {
+        let bytes = std::array::from_fn(|place| place as u8);
+        let answer = BlocksAnswer {
+            number: 0x03_02_01_00,
+            line: 0x07_06_05_04,
+            written: 0x0b_0a_09_08,
+        };
+        assert_eq!(BlocksAnswer::from_bytes(&bytes), answer);
+        let bytes_again = answer.numbers().map(u32::to_le_bytes).concat();
+        assert_eq!(bytes_again, bytes);
+    }
+
+    #[test]
+    fn a_refused_program_leaves_the_output_as_it_is() {
+        let refused: [(&[u8], u32, [u32; 3]); 10] = [
+            (PROGRAM, 0, [BAD_NUMBER, 0, 0]),
+            (PROGRAM, 9, [BAD_NUMBER, 0, 0]),
+            (b"send\nsend\r\n", 1, [BAD_BYTE, 2, 0]),
+            (b"send\nelse\n", 1, [BAD_BLOCK, 2, 0]),
+            (b"send\nif 0\n", 1, [BAD_BLOCK, 3, 0]),
+            (&b"if 0\n".repeat(9), 1, [TOO_DEEP, 9, 0]),
+            (b"send\njump 0\n", 1, [BAD_COMMAND, 2, 0]),
+            (b"send\ndrop 1\n", 1, [BAD_NUMBER, 2, 0]),
+            (&b"send\n".repeat(65), 1, [NO_ROOM_FOR_COMMANDS, 0, 0]),
+            (PROGRAM, 1, [NO_ROOM_FOR_COMMANDS, 0, 0]),
+        ];
+        for (program, keys, numbers) in refused {
+            let mut output = [b'~'; 58];
+            assert_eq!(blocks(program, keys, &mut output).numbers(), numbers);
+            assert_eq!(output, [b'~'; 58]);
+        }
+    }
+
+    #[test]
+    fn lines_of_a_program_are_the_commands_of_a_sheet() {
+        let program = b"receive\nhas 0 0\nwhile 0\nsend\nreceive\nhas 0 0\nend\n";
+        let mut lines = [b'~'; 76];
+        assert_eq!(blocks(program, 1, &mut lines).numbers(), [WRITTEN, 0, 76]);
+        let (head, tail) = (b"sheet=1\nkeys=1\n", b"msg=0:7\nmsg=0:8\nturns=");
+        let sheet = [head.as_slice(), &lines, tail, &[b'L'; 20], b"\n"].concat();
+        let mut output = [b'~'; 44];
+        assert_eq!(
+            run(&sheet, &mut output).numbers(),
+            [STOPPED, 0, 13, 13, 44, 2, 0]
+        );
+        let sent: &[u8] = b"sent=0003 +0000000007\nsent=0008 +0000000008\n";
+        assert_eq!(output, sent);
+    }
+
+    #[test]
+    fn empty_memories_are_lawful_for_a_program() {
+        let no_room = [NO_ROOM_FOR_COMMANDS, 0, 0];
+        assert_eq!(blocks(PROGRAM, 1, &mut []).numbers(), no_room);
+        assert_eq!(blocks(&[], 1, &mut []).numbers(), [BAD_BYTE, 1, 0]);
+        assert_eq!(blocks_entry(&[], 1, &mut [], &mut []), BAD_ANSWER);
+    }
+
+    #[test]
+    fn another_length_is_refused_for_a_program_too() {
+        for length in [0, 11, 13, ANSWER_BYTES] {
+            for keys in [0, 1] {
+                let (mut output, mut answer) = ([b'~'; 62], vec![b'~'; length]);
+                let returned = blocks_entry(PROGRAM, keys, &mut output, &mut answer);
+                assert_eq!(returned, BAD_ANSWER);
+                assert_eq!((output, answer), ([b'~'; 62], vec![b'~'; length]));
+            }
         }
     }
 }
