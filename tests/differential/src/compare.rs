@@ -5,8 +5,8 @@ use reference::generate::Rng;
 use std::fmt;
 
 /// A function on three lent memories: bytes that it only reads, the output memory and the answer
-/// memory.
-type Call = fn(&[u8], &mut [u8], &mut [u8]) -> u32;
+/// memory. The number beside the first is the K of `pavebox_blocks`; other entries have none.
+type Call = fn(&[u8], u32, &mut [u8], &mut [u8]) -> u32;
 
 /// A function of the archive, and the model's.
 pub struct Entry {
@@ -20,6 +20,8 @@ pub struct Entry {
 pub struct Case {
     entry: &'static Entry,
     input: Lent,
+    /// The K that is given, if the entry is given one.
+    keys: Option<u32>,
     output: Lent,
     answer: Lent,
 }
@@ -37,9 +39,15 @@ impl Case {
         Case {
             entry,
             input: Lent::holding(rng, input),
+            keys: None,
             output: Lent::filled(rng, lent),
             answer: Lent::filled(rng, answer_length),
         }
+    }
+
+    /// The same with this K.
+    pub fn with_keys(self, keys: Option<u32>) -> Case {
+        Case { keys, ..self }
     }
 
     /// The same memories with other bytes to be read.
@@ -47,6 +55,7 @@ impl Case {
         Case {
             entry: self.entry,
             input: Lent::holding(&mut Rng::new(0), input),
+            keys: self.keys,
             output: self.output.clone(),
             answer: self.answer.clone(),
         }
@@ -61,10 +70,18 @@ impl Case {
         self.output.bytes()
     }
 
+    /// Calls a function on these bytes, which may be a copy of the case's own, and its K.
+    fn call(&self, call: Call, input: &Lent, output: &mut Lent, answer: &mut Lent) -> u32 {
+        let keys = self.keys.unwrap_or(0);
+        call(input.bytes(), keys, output.bytes_mut(), answer.bytes_mut())
+    }
+
     pub fn differs(&self, message: String) -> Difference {
+        let keys = self.keys.map(|keys| format!("K {keys}, "));
+        let (name, keys) = (self.entry.input, keys.unwrap_or_default());
         Difference {
             message,
-            input: format!("{} \"{}\"", self.entry.input, shown(self.input())),
+            input: format!("{keys}{name} \"{}\"", shown(self.input())),
             lent: self.output.bytes().len(),
             answer_length: self.answer.bytes().len(),
         }
@@ -134,7 +151,7 @@ pub fn compare(case: &Case) -> Result<Left, Difference> {
 /// Calls the model, and compares all that it leaves with what the archive has left.
 pub fn compare_with_model(case: &Case, left: &Left) -> Result<(), Difference> {
     let (mut output, mut answer) = (case.output.clone(), case.answer.clone());
-    let returned = (case.entry.model)(case.input(), output.bytes_mut(), answer.bytes_mut());
+    let returned = case.call(case.entry.model, &case.input, &mut output, &mut answer);
     if left.returned != returned {
         let found = left.returned;
         return Err(case.differs(format!("the archive returns {found}, the model {returned}")));
@@ -167,7 +184,7 @@ pub fn compare_output(
 pub fn call_archive(case: &Case) -> Result<Left, Difference> {
     let input = case.input.clone();
     let (mut output, mut answer) = (case.output.clone(), case.answer.clone());
-    let returned = (case.entry.archive)(input.bytes(), output.bytes_mut(), answer.bytes_mut());
+    let returned = case.call(case.entry.archive, &input, &mut output, &mut answer);
     let name = case.entry.input;
     if input.bytes() != case.input() {
         return Err(case.differs(format!("the archive has changed the {name}")));

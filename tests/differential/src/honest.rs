@@ -20,7 +20,7 @@ pub static HONEST: Part = Part {
     entry: RUN,
     answer_bytes: ANSWER_BYTES,
     wrong_lengths: WRONG_LENGTHS,
-    memory_length,
+    memory_length: |rng, sheet, _| memory_length(rng, sheet),
     corners,
     text: printed,
     random,

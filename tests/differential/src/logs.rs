@@ -11,13 +11,13 @@ use reference::log::{answer_line, c_entry};
 pub static LOGS: Part = Part {
     name: "logs",
     entry: Entry {
-        archive: pavebox::csv_entry,
-        model: c_entry,
+        archive: |export, _, output, answer| pavebox::csv_entry(export, output, answer),
+        model: |export, _, output, answer| c_entry(export, output, answer),
         input: "export",
     },
     answer_bytes: CSV_ANSWER_BYTES,
     wrong_lengths: &[0, 1, 4, 8, 11, 13, 16, 24, 28, 48, 268],
-    memory_length,
+    memory_length: |rng, export, _| memory_length(rng, export),
     corners,
     text: lines_and_answer,
     random,
@@ -39,6 +39,7 @@ fn corners() -> Vec<Corner> {
     let corners = reference::corners::log::corners();
     let corner = |corner: reference::corners::log::Corner| Corner {
         lent: corner.lent,
+        keys: None,
         input: corner.export,
         text: [corner.lines, answer_line(corner.numbers)].concat(),
     };

@@ -1,12 +1,14 @@
 //! `differential [PART] [COUNT [SEED]]` compares the archive with the reference model.
 //!
-//! PART is `sheets`, which are run, `honest`, sheets whose runs are held to plain runs too, or `logs`,
-//! exports whose lines are made; without it, each of them in turn. First come the hand-written
-//! corners, then COUNT random cases (20,000 by default). SEED is taken from the clock by default, and
+//! PART is `sheets`, which are run, `honest`, sheets whose runs are held to plain runs too, `logs`,
+//! exports whose lines are made, or `blocks`, programs with blocks whose lines are made and held to what
+//! such programs do; without it, each of them in turn. First come the hand-written corners, then COUNT
+//! random cases (20,000 by default). SEED is taken from the clock by default, and
 //! is always printed. Of each call every byte of the three memories is compared, and the bytes around
 //! them. Exit status 1: a difference, or random cases that show too little, as fewer than some
 //! thousand may.
 
+mod blocks;
 mod compare;
 mod honest;
 mod lent;
@@ -20,7 +22,12 @@ use part::Part;
 use std::process::ExitCode;
 use std::time::{SystemTime, UNIX_EPOCH};
 
-static PARTS: [&Part; 3] = [&sheets::SHEETS, &honest::HONEST, &logs::LOGS];
+static PARTS: [&Part; 4] = [
+    &sheets::SHEETS,
+    &honest::HONEST,
+    &logs::LOGS,
+    &blocks::BLOCKS,
+];
 const DEFAULT_COUNT: u64 = 20_000;
 
 fn main() -> ExitCode {
@@ -28,7 +35,7 @@ fn main() -> ExitCode {
     let words: Vec<&str> = words.iter().map(String::as_str).collect();
     let (parts, words) = chosen(&words);
     let Some((count, seed)) = arguments(words) else {
-        eprintln!("usage: differential [sheets|honest|logs] [COUNT [SEED]]");
+        eprintln!("usage: differential [sheets|honest|logs|blocks] [COUNT [SEED]]");
         return ExitCode::from(2);
     };
     for part in parts {
@@ -118,12 +125,14 @@ mod tests {
     #[test]
     fn a_first_word_chooses_a_part() {
         let names = |parts: &[&Part]| -> Vec<&str> { parts.iter().map(|part| part.name).collect() };
+        let all = ["sheets", "honest", "logs", "blocks"];
         for (words, parts, rest) in [
             (&["logs", "7"][..], &["logs"][..], &["7"][..]),
             (&["sheets"], &["sheets"], &[]),
             (&["honest", "7", "8"], &["honest"], &["7", "8"]),
-            (&["7", "8"], &["sheets", "honest", "logs"], &["7", "8"]),
-            (&[], &["sheets", "honest", "logs"], &[]),
+            (&["blocks"], &["blocks"], &[]),
+            (&["7", "8"], &all, &["7", "8"]),
+            (&[], &all, &[]),
         ] {
             let (found, behind) = chosen(words);
             assert_eq!((names(found).as_slice(), behind), (parts, rest));

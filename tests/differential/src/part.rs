@@ -14,7 +14,7 @@ pub struct Part {
     pub answer_bytes: usize,
     pub wrong_lengths: &'static [usize],
     /// A length for the output memory.
-    pub memory_length: fn(&mut Rng, &[u8]) -> usize,
+    pub memory_length: fn(&mut Rng, &[u8], Option<u32>) -> usize,
     pub corners: fn() -> Vec<Corner>,
     /// What a call has left, as the text of a corner has it.
     pub text: fn(&Left) -> Vec<u8>,
@@ -26,6 +26,8 @@ pub struct Part {
 /// A hand-written case.
 pub struct Corner {
     pub lent: usize,
+    /// The K that is given, if the entry is given one.
+    pub keys: Option<u32>,
     pub input: Vec<u8>,
     pub text: Vec<u8>,
 }
@@ -56,6 +58,7 @@ impl Part {
         tally: &mut Tally,
     ) -> Result<(), Difference> {
         let case = self.case(rng, &corner.input, corner.lent, self.answer_bytes);
+        let case = case.with_keys(corner.keys);
         let left = compare(&case)?;
         let found = (self.text)(&left);
         if found != corner.text {
@@ -63,9 +66,11 @@ impl Part {
             return Err(case.differs(format!("the corner has {wanted}, the archive {found}")));
         }
         tally.count_corner(left.returned);
-        tally.count_corner(self.compare_once(rng, &corner.input)?.returned);
+        let again = self.compare_with_keys(rng, &corner.input, corner.keys)?;
+        tally.count_corner(again.returned);
         for &length in self.wrong_lengths {
             let case = self.case(rng, &corner.input, corner.lent, length);
+            let case = case.with_keys(corner.keys);
             tally.count_corner(compare(&case)?.returned);
         }
         Ok(())
@@ -73,13 +78,23 @@ impl Part {
 
     /// These bytes with random lengths of memory.
     pub fn compare_once(&'static self, rng: &mut Rng, input: &[u8]) -> Result<Left, Difference> {
-        let lent = (self.memory_length)(rng, input);
+        self.compare_with_keys(rng, input, None)
+    }
+
+    /// The same with this K, if the entry is given one.
+    pub fn compare_with_keys(
+        &'static self,
+        rng: &mut Rng,
+        input: &[u8],
+        keys: Option<u32>,
+    ) -> Result<Left, Difference> {
+        let lent = (self.memory_length)(rng, input, keys);
         let length = if rng.chance(1, 16) {
             rng.pick(self.wrong_lengths)
         } else {
             self.answer_bytes
         };
-        compare(&self.case(rng, input, lent, length))
+        compare(&self.case(rng, input, lent, length).with_keys(keys))
     }
 
     /// A call on these bytes with memories of these lengths.

@@ -15,7 +15,7 @@ pub static SHEETS: Part = Part {
     entry: RUN,
     answer_bytes: ANSWER_BYTES,
     wrong_lengths: WRONG_LENGTHS,
-    memory_length,
+    memory_length: |rng, sheet, _| memory_length(rng, sheet),
     corners,
     text: printed,
     random,
@@ -36,8 +36,8 @@ pub static SHEETS: Part = Part {
 };
 
 pub const RUN: Entry = Entry {
-    archive: pavebox::entry,
-    model: reference::c_entry,
+    archive: |sheet, _, output, answer| pavebox::entry(sheet, output, answer),
+    model: |sheet, _, output, answer| reference::c_entry(sheet, output, answer),
     input: "sheet",
 };
 
@@ -108,6 +108,7 @@ fn corners() -> Vec<Corner> {
 pub fn corner(corner: reference::corners::Corner) -> Corner {
     Corner {
         lent: corner.lent,
+        keys: None,
         input: corner.sheet,
         text: corner.printed,
     }

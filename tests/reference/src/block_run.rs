@@ -9,7 +9,9 @@
 //! Words between quotation marks are the note's own. A comment that begins with "Reading:" names
 //! the reading taken where the text leaves a choice, or seems to leave one.
 
-use crate::model::{command, lines, parts, step, variable, Command, Execution, Job, FIRST};
+use crate::model::{
+    command, lines, parts, sent_line, step, variable, Command, Execution, Job, FIRST,
+};
 use crate::plain::{called, Lines, Plain, Seen, Step};
 use std::slice::Iter;
 
@@ -163,4 +165,32 @@ pub fn difference(body: &[Part], job: &Job, messages: &Lines, steps: usize) -> O
         before || blocks.step() != plain.step() || blocks.seen() != plain.seen()
     };
     (0..steps).find(|_| differ())
+}
+
+/// What the monitor leaves where a program's lines stand in a sheet without secret keys whose turns are
+/// so many letters L: the low execution works alone, and step s is position s.
+#[derive(Debug, Clone, PartialEq, Eq)]
+pub struct Alone {
+    pub sent: Vec<u8>,
+    /// Ending, line, positions used, low steps, bytes written, messages taken.
+    pub numbers: [u32; 6],
+}
+
+/// Runs a program with blocks for so many turns, or until it has stopped.
+pub fn alone(body: &[Part], keys: usize, messages: &Lines, turns: usize) -> Alone {
+    let mut run = BlockRun::new(body, keys, messages);
+    let (mut sent, mut used) = (String::new(), 0);
+    while used < turns && !run.seen().stopped {
+        if let Step::Sends(entries) = run.step() {
+            sent += &sent_line(used, &entries);
+        }
+        used += 1;
+    }
+    let ending = if run.seen().stopped { 0 } else { 31 };
+    let taken = messages.len() - run.messages.len();
+    let numbers = [ending, 0, used, used, sent.len(), taken];
+    Alone {
+        sent: sent.into_bytes(),
+        numbers: numbers.map(|number| number as u32),
+    }
 }

@@ -147,13 +147,15 @@ impl Writer<'_> {
         }
     }
 
-    /// How many commands a body gets of those that are left: none at times, few or many.
+    /// How many commands a body gets of those that are left: none at times, few or many; in a deep
+    /// program mostly nearly all.
     fn share(&mut self, left: usize) -> usize {
         match self.rng.below(6) {
-            0 => 0,
+            0 if !self.deep => 0,
             1..=3 if !self.deep => self.rng.below(left.min(6) + 1),
             4 => left,
-            _ => self.rng.below(left + 1),
+            5 => self.rng.below(left + 1),
+            _ => left - self.rng.below(left / 4 + 1),
         }
     }
 
