@@ -1,7 +1,8 @@
 /*
  * The archive's boundary from C: memories of exactly the lengths that it is told, of every length
  * that matters. Run it under valgrind, which then sees each byte that is read or written beside
- * them. What sheets and exports mean is not tried here: tests/differential does that.
+ * them. What sheets, exports and programs with blocks mean is not tried here: tests/differential
+ * does that.
  *
  * Prints a line for each check that fails and, if all hold, one last line. Exit status 1: a check
  * has failed.
@@ -178,6 +179,7 @@ int main(void)
 {
     check_run();
     check_csv();
+    check_blocks();
     if (failures > 0)
         return 1;
     printf("c: all %u checks hold\n", checks);

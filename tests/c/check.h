@@ -64,5 +64,6 @@ void check_nulls(const struct entry *entry, const char *input, struct wanted emp
 /* The checks of each entry. */
 void check_run(void);
 void check_csv(void);
+void check_blocks(void);
 
 #endif
