@@ -3,7 +3,7 @@
 //! Wrong readings of the note are in `note_5_readings.rs`.
 
 use reference::block_run::{difference, tree, Body, Part};
-use reference::blocks::{blocks, c_entry, do_lines, translated, LENT, MOST_DEPTH};
+use reference::blocks::{answer_line, blocks, c_entry, do_lines, translated, LENT, MOST_DEPTH};
 use reference::corners::blocks::{
     corners, BAD_NUMBERS, EXAMPLES, FAULTS, KEYS_BEYOND, KEY_BEYOND_KEYS, LONG, LONG_REFUSED,
     NO_COMMANDS, REFUSED, REFUSED_EXAMPLES, TOO_SHORT, WRITTEN,
@@ -13,7 +13,9 @@ use reference::generate::blocks::{accepted, memory_length, messages, Program};
 use reference::generate::Rng;
 use reference::model::MOST_COMMANDS;
 use reference::plain::{Plain, Step};
-use reference::{read, Command, Job, Level, Refusal};
+use reference::{printed, read, Command, Job, Level, Refusal};
+use std::fs;
+use std::path::Path;
 
 /// A loop over messages with a choice in it.
 const TEXT: &[u8] =
@@ -107,6 +109,50 @@ fn c_entry_refuses_answer_memory_of_another_length_before_anything_else() {
             assert!(answer.iter().all(|&byte| byte == FILL));
         }
     }
+}
+
+/// The programs of `examples/`, and what `blocks` is to print for each. K is 2, or the number at the end
+/// of the name behind `keys_`.
+#[test]
+fn the_examples_give_what_stands_beside_them() {
+    let folder = Path::new(env!("CARGO_MANIFEST_DIR")).join("../../examples");
+    let files = fs::read_dir(&folder).expect("the folder of the examples is there");
+    let mut count = 0;
+    for file in files {
+        let path = file.expect("the folder can be read").path();
+        if path.extension() != Some("blocks".as_ref()) {
+            continue;
+        }
+        let name = path.file_stem().and_then(|name| name.to_str());
+        let name = name.expect("an example has a name");
+        let beside = |extension| {
+            let text = folder.join("blocks").join(name).with_extension(extension);
+            fs::read(&text).unwrap_or_else(|error| panic!("{}: {error}", text.display()))
+        };
+        let keys = name.rsplit_once("keys_").map_or("2", |(_, keys)| keys);
+        let keys = keys.parse().expect("a K is a number");
+        let text = fs::read(&path).expect("it can be read");
+        let (numbers, output) = filled(&text, keys, LENT);
+        assert_eq!(output[..numbers[2] as usize], beside("txt"), "{name}");
+        assert_eq!(answer_line(numbers), beside("answer"), "{name}");
+        count += 1;
+    }
+    assert!(count > 45, "{count}");
+}
+
+/// The sheet with the lines of `average.blocks` sends the mean of four speeds, and all bags.
+#[test]
+fn the_average_is_sent() {
+    let folder = Path::new(env!("CARGO_MANIFEST_DIR")).join("../../examples");
+    let sheet = fs::read(folder.join("average.txt")).expect("the sheet is there");
+    let job = read(&sheet).expect("the sheet is accepted");
+    let text = fs::read(folder.join("average.blocks")).expect("the program is there");
+    assert_eq!(Ok(&job.commands), translated(&text, 2).as_ref());
+    assert_eq!(difference(&tree(&text, 2), &job, &job.messages, 100), None);
+    let speeds = [1_500, 1_480, 1_510, 1_490];
+    let (mean, bags) = (speeds.iter().sum::<i32>() / 4, 12 + 9 + 15 + 11 + 8);
+    let sent = format!("sent=0120 +{mean:010} +{bags:010}\nend=0 0 121 61 34 5 0\n");
+    assert_eq!(printed(&sheet, 34), sent.as_bytes());
 }
 
 /// 4 "at line 0, before all else": whatever the text and the memory are.
