@@ -1,9 +1,9 @@
 /*
  * The stack that the archive uses: `stack run SHEETS` for pavebox_run, `stack csv EXPORTS` for
- * pavebox_csv. Each file that the command line names is handed over on a stack of our own, painted
- * with one byte. The deepest byte that has changed tells how much was used. A byte may be written
- * without a change, so each file is tried with two paints. What a function that does nothing uses in
- * the same place is taken off.
+ * pavebox_csv, `stack blocks PROGRAMS` for pavebox_blocks with K 8. Each file that the command line
+ * names is handed over on a stack of our own, painted with one byte. The deepest byte that has
+ * changed tells how much was used. A byte may be written without a change, so each file is tried with
+ * two paints. What a function that does nothing uses in the same place is taken off.
  */
 #define _GNU_SOURCE
 #include "pavebox.h"
@@ -16,6 +16,8 @@
 #define STACK_BYTES (1u << 20)
 
 typedef uint32_t entry(const uint8_t *, size_t, uint8_t *, size_t, uint8_t *, size_t);
+typedef uint32_t entry_with_keys(const uint8_t *, size_t, uint32_t, uint8_t *, size_t, uint8_t *,
+                                 size_t);
 
 static uint8_t stack[STACK_BYTES];
 static uint8_t text[PAVEBOX_MOST_SHEET_BYTES + 1];
@@ -23,6 +25,7 @@ static uint8_t output[32768];
 static uint8_t answer[PAVEBOX_ANSWER_BYTES];
 static size_t length, answer_length;
 static entry *volatile called;
+static entry_with_keys *volatile called_with_keys;
 static ucontext_t here, there;
 
 static uint32_t nothing(const uint8_t *s, size_t s_len, uint8_t *o, size_t o_len, uint8_t *a,
@@ -32,23 +35,34 @@ static uint32_t nothing(const uint8_t *s, size_t s_len, uint8_t *o, size_t o_len
     return 0;
 }
 
+static uint32_t nothing_with_keys(const uint8_t *s, size_t s_len, uint32_t keys, uint8_t *o,
+                                  size_t o_len, uint8_t *a, size_t a_len)
+{
+    (void)s, (void)s_len, (void)keys, (void)o, (void)o_len, (void)a, (void)a_len;
+    return 0;
+}
+
 static void call(void)
 {
     called(text, length, output, sizeof output, answer, answer_length);
 }
 
+static void call_with_keys(void)
+{
+    called_with_keys(text, length, 8, output, sizeof output, answer, answer_length);
+}
+
 /* The bytes from the top of the painted stack down to the deepest one that a call has changed. */
-static size_t depth(entry *which, uint8_t paint)
+static size_t depth(void (*function)(void), uint8_t paint)
 {
     size_t place = 0;
     memset(stack, paint, STACK_BYTES);
-    called = which;
     if (getcontext(&there) != 0)
         exit(2);
     there.uc_stack.ss_sp = stack;
     there.uc_stack.ss_size = STACK_BYTES;
     there.uc_link = &here;
-    makecontext(&there, call, 0);
+    makecontext(&there, function, 0);
     if (swapcontext(&here, &there) != 0)
         exit(2);
     while (place < STACK_BYTES && stack[place] == paint)
@@ -61,17 +75,37 @@ static size_t larger(size_t one, size_t other)
     return one > other ? one : other;
 }
 
-static size_t deepest(entry *which)
+static size_t deepest(void (*function)(void))
 {
-    return larger(depth(which, 0xa5), depth(which, 0x5a));
+    return larger(depth(function, 0xa5), depth(function, 0x5a));
+}
+
+/* What an entry uses more than a function that does nothing. */
+static size_t used(entry *which)
+{
+    size_t bytes;
+    called = which;
+    bytes = deepest(call);
+    called = nothing;
+    return bytes - deepest(call);
+}
+
+static size_t used_by_blocks(void)
+{
+    size_t bytes;
+    called_with_keys = pavebox_blocks;
+    bytes = deepest(call_with_keys);
+    called_with_keys = nothing_with_keys;
+    return bytes - deepest(call_with_keys);
 }
 
 int main(int count, char **words)
 {
-    const int csv = count > 1 && strcmp(words[1], "csv") == 0;
+    const char *name = count > 1 ? words[1] : "run";
+    const int run = strcmp(name, "run") == 0, blocks = strcmp(name, "blocks") == 0;
     size_t most = 0;
     int place;
-    answer_length = csv ? PAVEBOX_CSV_ANSWER_BYTES : PAVEBOX_ANSWER_BYTES;
+    answer_length = run ? PAVEBOX_ANSWER_BYTES : PAVEBOX_CSV_ANSWER_BYTES;
     for (place = 2; place < count; place++) {
         FILE *file = fopen(words[place], "rb");
         if (file == NULL) {
@@ -80,7 +114,7 @@ int main(int count, char **words)
         }
         length = fread(text, 1, sizeof text, file);
         fclose(file);
-        most = larger(most, deepest(csv ? pavebox_csv : pavebox_run) - deepest(nothing));
+        most = larger(most, blocks ? used_by_blocks() : used(run ? pavebox_run : pavebox_csv));
     }
     printf("%lu\n", (unsigned long)most);
     return 0;

@@ -1,7 +1,9 @@
 //! Compares the archive with straightforward Rust programs. See README.md for the commands.
 
+mod blocks;
 mod logs;
 mod plain;
+mod plain_blocks;
 mod plain_log;
 mod sheets;
 mod timing;
@@ -38,6 +40,12 @@ const CSV: Sides<3> = Sides {
     plain: plain_log::csv,
 };
 
+/// Making the lines of a program with blocks.
+const BLOCKS: Sides<3> = Sides {
+    archive: |program, output| pavebox::blocks(program, blocks::KEYS, output).numbers(),
+    plain: |program, output| plain_blocks::blocks(program, blocks::KEYS, output),
+};
+
 fn main() -> ExitCode {
     let words: Vec<String> = std::env::args().skip(1).collect();
     let words: Vec<&str> = words.iter().map(String::as_str).collect();
@@ -58,7 +66,7 @@ fn main() -> ExitCode {
 }
 
 fn usage() -> String {
-    "usage: bench\n       bench archive|plain COUNT [all|long|short|largest|LH|all L|random|runs|calls|log]\n       \
+    "usage: bench\n       bench archive|plain COUNT [all|long|short|largest|LH|all L|random|runs|calls|log|blocks]\n       \
      bench texts FOLDER"
         .to_string()
 }
@@ -67,11 +75,13 @@ fn compare_and_time() -> Result<(), String> {
     let halves = [sheets::long(), sheets::short()];
     let kinds = sheets::kinds();
     let logs = [logs::full()];
+    let blocks = [blocks::full()];
     for group in halves.iter().chain(&kinds).chain([&sheets::largest()]) {
         compare(&RUN, group)?;
     }
     compare(&CSV, &logs[0])?;
-    println!("archive and plain agree on all sheets and exports");
+    compare(&BLOCKS, &blocks[0])?;
+    println!("archive and plain agree on all sheets, exports and programs with blocks");
     let of_halves = [Row("all", &[0, 1]), Row("long", &[0]), Row("short", &[1])];
     print!("{}", timing::report(&RUN, &halves, &of_halves));
     println!("long runs, by the kind of their turns:");
@@ -85,6 +95,11 @@ fn compare_and_time() -> Result<(), String> {
     print!("{}", timing::report(&RUN, &kinds, &of_kinds));
     println!("full exports of a belt log:");
     print!("{}", timing::report(&CSV, &logs, &[Row("log", &[0])]));
+    println!("programs with blocks, of 64 commands:");
+    print!(
+        "{}",
+        timing::report(&BLOCKS, &blocks, &[Row("blocks", &[0])])
+    );
     Ok(())
 }
 
@@ -111,11 +126,14 @@ fn run_one(side: &str, count: &str, name: &str) -> Result<(), String> {
         "short" => vec![sheets::short()],
         "largest" => vec![sheets::largest()],
         "log" => vec![logs::full()],
+        "blocks" => vec![blocks::full()],
         kind => of_kind(kind)?,
     };
     match (name, side) {
         ("log", "archive") => passes(CSV.archive, count, &groups),
         ("log", _) => passes(CSV.plain, count, &groups),
+        ("blocks", "archive") => passes(BLOCKS.archive, count, &groups),
+        ("blocks", _) => passes(BLOCKS.plain, count, &groups),
         (_, "archive") => passes(RUN.archive, count, &groups),
         _ => passes(RUN.plain, count, &groups),
     }
@@ -153,11 +171,12 @@ fn pass<const N: usize>(side: Side<N>, group: &Group, output: &mut [u8]) {
     }
 }
 
-/// Writes each text to a file of its own: sheets `.txt`, exports `.csv`.
+/// Writes each text to a file of its own: sheets `.txt`, exports `.csv`, programs `.blocks`.
 fn write_texts(folder: &str) -> Result<(), String> {
     let sheets = [sheets::long(), sheets::short(), sheets::largest()];
     let sheets = sheets.map(|group| (group, "txt"));
-    for (group, suffix) in sheets.into_iter().chain([(logs::full(), "csv")]) {
+    let others = [(logs::full(), "csv"), (blocks::full(), "blocks")];
+    for (group, suffix) in sheets.into_iter().chain(others) {
         for (place, text) in group.texts.iter().enumerate() {
             let file = Path::new(folder).join(format!("{}_{place:03}.{suffix}", group.name));
             let failed = |error| format!("{}: {error}", file.display());
