@@ -476,27 +476,30 @@ fn noise_gets_past_the_first_line() {
     }
 }
 
-/// Depths, counts of commands and of keys, every command, every kind of block, empty or not.
+/// Whether more than a few of 3,000 accepted programs are such.
+fn often(such: impl Fn(&Program) -> bool) -> bool {
+    let mut rng = Rng::new(13);
+    let programs = (0..3_000).map(|_| accepted(&mut rng));
+    programs.filter(|program| such(program)).count() > 5
+}
+
 #[test]
 fn accepted_programs_reach_the_limits() {
-    let mut rng = Rng::new(13);
-    let programs: Vec<Program> = (0..3_000).map(|_| accepted(&mut rng)).collect();
-    let often = |limit: &dyn Fn(&Program) -> bool| {
-        programs.iter().filter(|program| limit(program)).count() > 5
-    };
     for depth in 0..=8 {
-        assert!(often(&|program| depth_of(program) == depth), "{depth} deep");
+        assert!(often(|program| depth_of(program) == depth), "{depth} deep");
     }
     for count in (1..=20).chain(60..=64) {
-        let commands = |program: &Program| translation(program).len();
-        assert!(
-            often(&|program| commands(program) == count),
-            "{count} commands"
-        );
+        let such = |program: &Program| translation(program).len() == count;
+        assert!(often(such), "{count} commands");
     }
     for keys in 1..=8 {
-        assert!(often(&|program| program.keys == keys), "{keys} keys");
+        assert!(often(|program| program.keys == keys), "{keys} keys");
     }
+}
+
+/// Every command, and every kind of block, empty or not.
+#[test]
+fn accepted_programs_have_every_line() {
     let words = [
         "set", "add", "sub", "mul", "div", "read", "has", "put", "drop", "receive", "send", "stop",
         "if", "while", "else", "end",
@@ -507,18 +510,19 @@ fn accepted_programs_reach_the_limits() {
     };
     for word in words {
         assert!(
-            often(&|program| has(program, &format!("\n{word}"))),
+            often(|program| has(program, &format!("\n{word}"))),
             "{word}"
         );
     }
-    for empty in [
+    let empty = [
         "if 0\nend\n",
         "while 1\nend\n",
         "if 2\nelse\n",
         "\nelse\nend\n",
         "\nelse\nif",
-    ] {
-        assert!(often(&|program| has(program, empty)), "{empty:?}");
+    ];
+    for lines in empty {
+        assert!(often(|program| has(program, lines)), "{lines:?}");
     }
 }
 

@@ -157,7 +157,21 @@ struct Reader<'a> {
     commands: Vec<String>,
 }
 
-impl Reader<'_> {
+impl<'a> Reader<'a> {
+    fn new(wrong: Option<Wrong>, keys: u32, text: &'a str) -> Reader<'a> {
+        Reader {
+            wrong,
+            keys,
+            lines: text.split_terminator('\n').collect(),
+            next: 0,
+            inside: vec![Inside::Nothing],
+            begun: vec![0],
+            stopped: false,
+            lacks_end: false,
+            commands: Vec::new(),
+        }
+    }
+
     fn is(&self, wrong: Wrong) -> bool {
         self.wrong == Some(wrong)
     }
@@ -382,17 +396,7 @@ fn lines_by(wrong: Option<Wrong>, program: &Program, lent: usize) -> Result<Stri
     }
     // One character for each byte, so that forbidden ones stay what they are.
     let text: String = text.iter().map(|&byte| char::from(byte)).collect();
-    let mut reader = Reader {
-        wrong,
-        keys: program.keys,
-        lines: text.split_terminator('\n').collect(),
-        next: 0,
-        inside: vec![Inside::Nothing],
-        begun: vec![0],
-        stopped: false,
-        lacks_end: false,
-        commands: Vec::new(),
-    };
+    let mut reader = Reader::new(wrong, program.keys, &text);
     reader.body()?;
     let count = match wrong {
         Some(Wrong::LinesCount) => reader.lines.len(),
@@ -583,8 +587,14 @@ const DIFFER: &[(&str, &str, usize)] = &[
         "do=ifzero 0 3\ndo=receive\ndo=jump 4\ndo=send\n",
         1,
     ),
-    // A program that stops one step late.
+    // A program that stops one step late, and one that stops too soon.
     ("send\n", "do=send\ndo=stop\n", 0),
+    ("send\nsend\n", "do=send\ndo=jump 2\n", 1),
+    // A variable alone, a field alone, a call alone, what is sent alone.
+    ("set 0 1\nsend\n", "do=set 0 2\ndo=send\n", 0),
+    ("put 0 0\nstop\n", "do=drop 0\ndo=stop\n", 0),
+    ("drop 0\nsend\n", "do=drop 0\ndo=drop 0\n", 1),
+    ("send\nput 0 0\n", "do=put 0 0\ndo=send\n", 0),
 ];
 
 #[test]
