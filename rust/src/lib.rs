@@ -195,7 +195,8 @@ impl CsvAnswer {
 pub struct BlocksAnswer {
     /// 0 if the lines were written, else the refusal: 2, 4, 6, 51, 52 or 53.
     pub number: u32,
-    /// The line that is refused, from 1; 0 if there is none.
+    /// The line that is refused, from 1; 0 if there is none. Of a line beyond 4,294,967,295 the low 32
+    /// bits.
     pub line: u32,
     /// Bytes of `do` lines at the start of the output memory.
     pub written: u32,
