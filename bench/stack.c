@@ -3,7 +3,8 @@
  * pavebox_csv, `stack blocks PROGRAMS` for pavebox_blocks with K 8. Each file that the command line
  * names is handed over on a stack of our own, painted with one byte. The deepest byte that has
  * changed tells how much was used. A byte may be written without a change, so each file is tried with
- * two paints. What a function that does nothing uses in the same place is taken off.
+ * two paints. What a function that does nothing uses in the same place is taken off. Exit status 2: the
+ * first word names no entry, or a file cannot be read.
  */
 #define _GNU_SOURCE
 #include "pavebox.h"
@@ -99,13 +100,44 @@ static size_t used_by_blocks(void)
     return bytes - deepest(call_with_keys);
 }
 
+static size_t used_by_run(void)
+{
+    return used(pavebox_run);
+}
+
+static size_t used_by_csv(void)
+{
+    return used(pavebox_csv);
+}
+
+struct measured {
+    const char *name;
+    size_t answer_bytes;
+    size_t (*used)(void);
+};
+
+/* The entry that the first word names. */
+static const struct measured *find(const char *name)
+{
+    static const struct measured entries[] = {
+        {"run", PAVEBOX_ANSWER_BYTES, used_by_run},
+        {"csv", PAVEBOX_CSV_ANSWER_BYTES, used_by_csv},
+        {"blocks", PAVEBOX_BLOCKS_ANSWER_BYTES, used_by_blocks},
+    };
+    size_t place;
+    for (place = 0; place < sizeof entries / sizeof entries[0]; place++)
+        if (strcmp(name, entries[place].name) == 0)
+            return &entries[place];
+    fprintf(stderr, "stack: there is no entry '%s'\n", name);
+    exit(2);
+}
+
 int main(int count, char **words)
 {
-    const char *name = count > 1 ? words[1] : "run";
-    const int run = strcmp(name, "run") == 0, blocks = strcmp(name, "blocks") == 0;
+    const struct measured *const measured = find(count > 1 ? words[1] : "");
     size_t most = 0;
     int place;
-    answer_length = run ? PAVEBOX_ANSWER_BYTES : PAVEBOX_CSV_ANSWER_BYTES;
+    answer_length = measured->answer_bytes;
     for (place = 2; place < count; place++) {
         FILE *file = fopen(words[place], "rb");
         if (file == NULL) {
@@ -114,7 +146,7 @@ int main(int count, char **words)
         }
         length = fread(text, 1, sizeof text, file);
         fclose(file);
-        most = larger(most, blocks ? used_by_blocks() : used(run ? pavebox_run : pavebox_csv));
+        most = larger(most, measured->used());
     }
     printf("%lu\n", (unsigned long)most);
     return 0;
