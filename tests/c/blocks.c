@@ -23,21 +23,11 @@ static uint32_t call(const uint8_t *text, size_t text_len, uint8_t *output, size
 static void check_read(const char *name, const uint8_t *answer, const uint32_t *numbers)
 {
     const struct pavebox_blocks_answer found = pavebox_read_blocks_answer(answer);
-    check(found.number == numbers[0], name, "number");
-    check(found.line == numbers[1], name, "line");
-    check(found.written == numbers[2], name, "bytes written");
+    const uint32_t three[] = {found.number, found.line, found.written};
+    check_three(name, "line", three, numbers);
 }
 
 static const struct entry entry = {call, PAVEBOX_BLOCKS_ANSWER_BYTES / 4, check_read};
-
-#define REFUSED(number, line) ((struct wanted){"", {number, line, 0, 0, 0, 0, 0}})
-
-static struct wanted written(const char *lines)
-{
-    struct wanted wanted = {lines, {PAVEBOX_WRITTEN, 0, 0, 0, 0, 0, 0}};
-    wanted.numbers[2] = (uint32_t)strlen(lines);
-    return wanted;
-}
 
 static void blocks(const char *name, const char *text, size_t lent, struct wanted wanted)
 {

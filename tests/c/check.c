@@ -31,6 +31,21 @@ void check(int holds, const char *name, const char *what)
     }
 }
 
+struct wanted written(const char *lines)
+{
+    struct wanted wanted = {lines, {PAVEBOX_WRITTEN, 0, 0, 0, 0, 0, 0}};
+    wanted.numbers[2] = (uint32_t)strlen(lines);
+    return wanted;
+}
+
+void check_three(const char *name, const char *place, const uint32_t *found,
+                 const uint32_t *numbers)
+{
+    check(found[0] == numbers[0], name, "number");
+    check(found[1] == numbers[1], name, place);
+    check(found[2] == numbers[2], name, "bytes written");
+}
+
 uint8_t *memory(size_t length)
 {
     uint8_t *bytes = malloc(length);

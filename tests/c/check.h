@@ -31,11 +31,23 @@ struct wanted {
     uint32_t numbers[MOST_NUMBERS];
 };
 
+/* What a refusal by an entry that writes lines gives: nothing is written. The place is the line or
+ * row that is refused. */
+#define REFUSED(number, place) ((struct wanted){"", {number, place, 0, 0, 0, 0, 0}})
+
+/* What such an entry gives where it writes these lines. */
+struct wanted written(const char *lines);
+
 /* Names the entry that the checks behind it are of. */
 void begin(const char *entry);
 
 /* Counts a check and prints a line if it fails. */
 void check(int holds, const char *name, const char *what);
+
+/* Checks the three numbers of such an entry, as the header has read them: number, place, bytes
+ * written. The second is called "line" or "row". */
+void check_three(const char *name, const char *place, const uint32_t *found,
+                 const uint32_t *numbers);
 
 /* Heap memory of exactly this length, which may be 0, and filled. */
 uint8_t *memory(size_t length);

@@ -14,21 +14,11 @@
 static void check_read(const char *name, const uint8_t *answer, const uint32_t *numbers)
 {
     const struct pavebox_csv_answer found = pavebox_read_csv_answer(answer);
-    check(found.number == numbers[0], name, "number");
-    check(found.row == numbers[1], name, "row");
-    check(found.written == numbers[2], name, "bytes written");
+    const uint32_t three[] = {found.number, found.row, found.written};
+    check_three(name, "row", three, numbers);
 }
 
 static const struct entry entry = {pavebox_csv, PAVEBOX_CSV_ANSWER_BYTES / 4, check_read};
-
-#define REFUSED(number, row) ((struct wanted){"", {number, row, 0, 0, 0, 0, 0}})
-
-static struct wanted written(const char *lines)
-{
-    struct wanted wanted = {lines, {PAVEBOX_WRITTEN, 0, 0, 0, 0, 0, 0}};
-    wanted.numbers[2] = (uint32_t)strlen(lines);
-    return wanted;
-}
 
 static void csv(const char *name, const char *export, size_t lent, struct wanted wanted)
 {
