@@ -265,6 +265,20 @@ fn maybe(rng: &mut Rng, part: usize, whole: usize) -> Option<i32> {
     rng.chance(part, whole).then(|| value(rng))
 }
 
+/// A length for the output memory: none, one byte short of what is needed, exactly that, one byte or
+/// somewhat more, any that is too short, or enough for every text.
+fn length_near(rng: &mut Rng, needed: usize, enough: usize) -> usize {
+    match rng.below(10) {
+        0 => 0,
+        1 => needed.saturating_sub(1),
+        2..=4 => needed,
+        5 => needed + 1,
+        6 => needed + rng.below(100),
+        7 => rng.below(needed + 1),
+        _ => enough,
+    }
+}
+
 fn message(rng: &mut Rng, keys: usize) -> Vec<Option<i32>> {
     if rng.chance(1, 10) {
         return vec![None; keys];

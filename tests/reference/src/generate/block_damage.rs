@@ -7,7 +7,7 @@
 #![allow(clippy::ptr_arg)]
 
 use super::blocks::{accepted, program_of, Program, Shape};
-use super::damage::{change_byte, BAD_NUMBERS};
+use super::damage::{change_byte, delete_line, repeat_line, swap_lines, BAD_NUMBERS};
 use super::Rng;
 use crate::blocks::MOST_DEPTH;
 use crate::model::MOST_COMMANDS;
@@ -183,26 +183,6 @@ fn lose_begin(rng: &mut Rng, lines: &mut Vec<Line>) {
     let word = rng.pick(&["if", "while"]);
     if let Some(place) = place_of(rng, lines, word) {
         lines.remove(place);
-    }
-}
-
-fn swap_lines(rng: &mut Rng, lines: &mut Vec<Line>) {
-    if !lines.is_empty() {
-        let (first, second) = (rng.below(lines.len()), rng.below(lines.len()));
-        lines.swap(first, second);
-    }
-}
-
-fn delete_line(rng: &mut Rng, lines: &mut Vec<Line>) {
-    if !lines.is_empty() {
-        lines.remove(rng.below(lines.len()));
-    }
-}
-
-fn repeat_line(rng: &mut Rng, lines: &mut Vec<Line>) {
-    if !lines.is_empty() {
-        let place = rng.below(lines.len());
-        lines.insert(place, lines[place].clone());
     }
 }
 

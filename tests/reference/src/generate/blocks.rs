@@ -3,7 +3,7 @@
 //! Accepted ones are written block by block, with a count of commands that is used up; those of
 //! [`super::block_damage`] begin as accepted ones.
 
-use super::{message, value, Rng};
+use super::{length_near, message, value, Rng};
 use crate::blocks::{do_lines, translated, LENT, MOST_DEPTH};
 use crate::model::{words, Command, MOST_COMMANDS, MOST_KEYS, VARIABLES};
 
@@ -252,20 +252,11 @@ pub fn messages(rng: &mut Rng, keys: usize) -> Vec<Vec<Option<i32>>> {
     (0..rng.below(9)).map(|_| message(rng, keys)).collect()
 }
 
-/// A length for the output memory: none, one byte short of the lines, exactly their length, one byte
-/// or somewhat more, any that is too short, or long enough for every text.
+/// A length for the output memory, often near that of the lines.
 pub fn memory_length(rng: &mut Rng, program: &Program) -> usize {
     let length = match translated(&program.text, program.keys) {
         Ok(commands) if commands.len() <= MOST_COMMANDS => do_lines(&commands).len(),
         _ => rng.below(100),
     };
-    match rng.below(10) {
-        0 => 0,
-        1 => length.saturating_sub(1),
-        2..=4 => length,
-        5 => length + 1,
-        6 => length + rng.below(100),
-        7 => rng.below(length + 1),
-        _ => LENT,
-    }
+    length_near(rng, length, LENT)
 }

@@ -158,20 +158,20 @@ fn open_end(rng: &mut Rng, sheet: &mut Vec<u8>) {
 
 // Refusal 3.
 
-fn delete_line(rng: &mut Rng, lines: &mut Vec<Line>) {
+pub(super) fn delete_line<T>(rng: &mut Rng, lines: &mut Vec<T>) {
     if !lines.is_empty() {
         lines.remove(rng.below(lines.len()));
     }
 }
 
-fn repeat_line(rng: &mut Rng, lines: &mut Vec<Line>) {
+pub(super) fn repeat_line<T: Clone>(rng: &mut Rng, lines: &mut Vec<T>) {
     if !lines.is_empty() {
         let place = rng.below(lines.len());
         lines.insert(place, lines[place].clone());
     }
 }
 
-fn swap_lines(rng: &mut Rng, lines: &mut Vec<Line>) {
+pub(super) fn swap_lines<T>(rng: &mut Rng, lines: &mut Vec<T>) {
     if !lines.is_empty() {
         let (first, second) = (rng.below(lines.len()), rng.below(lines.len()));
         lines.swap(first, second);

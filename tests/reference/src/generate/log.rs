@@ -8,7 +8,7 @@
 #![allow(clippy::ptr_arg)]
 
 use super::damage::{change_byte, BAD_NUMBERS};
-use super::{message, Rng};
+use super::{length_near, message, Rng};
 use crate::log::{lines, read, LENT};
 use crate::model::{MOST_KEYS, MOST_MESSAGES};
 
@@ -75,22 +75,13 @@ fn keys(rng: &mut Rng) -> Vec<usize> {
     keys
 }
 
-/// A length for the output memory: none, one byte short of the text, exactly its length, one byte
-/// or somewhat more, any that is too short, or long enough for every text.
+/// A length for the output memory, often near that of the lines.
 pub fn memory_length(rng: &mut Rng, export: &[u8]) -> usize {
     let length = match read(export) {
         Ok(messages) => lines(&messages).len(),
         Err(_) => rng.below(100),
     };
-    match rng.below(10) {
-        0 => 0,
-        1 => length.saturating_sub(1),
-        2..=4 => length,
-        5 => length + 1,
-        6 => length + rng.below(100),
-        7 => rng.below(length + 1),
-        _ => LENT,
-    }
+    length_near(rng, length, LENT)
 }
 
 // Faults.
