@@ -1,6 +1,9 @@
 //! Note 1 of document 02 against the model: its corners, its memories, the lines in a sheet, and
 //! what the generators reach.
 
+mod examples;
+
+use examples::examples;
 use reference::corners::log::{
     corners, BAD_ROWS, EXAMPLES, LONG, LONG_REFUSED, REFUSED, REFUSED_EXAMPLES, TOO_SHORT, WRITTEN,
 };
@@ -9,8 +12,6 @@ use reference::generate::log::{
 };
 use reference::generate::Rng;
 use reference::log::{answer_line, c_entry, csv, lines, read, Message, Refusal, LENT};
-use std::fs;
-use std::path::Path;
 
 /// Two keys, a message with both and one with the second.
 const EXPORT: &[u8] = b"2,5\r\n-40,7\r\n,300\r\n";
@@ -94,25 +95,14 @@ fn c_entry_refuses_answer_memory_of_another_length_before_anything_else() {
 /// The exports of `examples/`, and what `beltlog` is to print for each.
 #[test]
 fn the_examples_give_what_stands_beside_them() {
-    let folder = Path::new(env!("CARGO_MANIFEST_DIR")).join("../../examples");
-    let files = fs::read_dir(&folder).expect("the folder of the examples is there");
-    let mut count = 0;
-    for file in files {
-        let path = file.expect("the folder can be read").path();
-        if path.extension() != Some("csv".as_ref()) {
-            continue;
-        }
-        let name = path.file_stem().expect("an example has a name");
-        let beside = |extension| {
-            let text = folder.join("beltlog").join(name).with_extension(extension);
-            fs::read(&text).unwrap_or_else(|error| panic!("{}: {error}", text.display()))
-        };
-        let (numbers, output) = filled_csv(&fs::read(&path).expect("it can be read"), LENT);
-        assert_eq!(output[..numbers[2] as usize], beside("txt"), "{name:?}");
-        assert_eq!(answer_line(numbers), beside("answer"), "{name:?}");
-        count += 1;
+    let examples = examples("csv", "beltlog");
+    assert!(examples.len() > 30, "{}", examples.len());
+    for example in examples {
+        let name = example.name;
+        let (numbers, output) = filled_csv(&example.text, LENT);
+        assert_eq!(output[..numbers[2] as usize], example.lines, "{name}");
+        assert_eq!(answer_line(numbers), example.answer, "{name}");
     }
-    assert!(count > 30, "{count}");
 }
 
 // What follows from the note.

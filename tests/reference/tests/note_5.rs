@@ -2,6 +2,9 @@
 //! dialect's own meaning against the plain run of the translation, and what the generators reach.
 //! Wrong readings of the note are in `note_5_readings.rs`.
 
+mod examples;
+
+use examples::{examples, folder};
 use reference::block_run::{difference, tree, Body, Part};
 use reference::blocks::{answer_line, blocks, c_entry, do_lines, translated, LENT, MOST_DEPTH};
 use reference::corners::blocks::{
@@ -15,7 +18,6 @@ use reference::model::MOST_COMMANDS;
 use reference::plain::{Plain, Step};
 use reference::{printed, read, Command, Job, Level, Refusal};
 use std::fs;
-use std::path::Path;
 
 /// A loop over messages with a choice in it.
 const TEXT: &[u8] =
@@ -115,35 +117,22 @@ fn c_entry_refuses_answer_memory_of_another_length_before_anything_else() {
 /// of the name behind `keys_`.
 #[test]
 fn the_examples_give_what_stands_beside_them() {
-    let folder = Path::new(env!("CARGO_MANIFEST_DIR")).join("../../examples");
-    let files = fs::read_dir(&folder).expect("the folder of the examples is there");
-    let mut count = 0;
-    for file in files {
-        let path = file.expect("the folder can be read").path();
-        if path.extension() != Some("blocks".as_ref()) {
-            continue;
-        }
-        let name = path.file_stem().and_then(|name| name.to_str());
-        let name = name.expect("an example has a name");
-        let beside = |extension| {
-            let text = folder.join("blocks").join(name).with_extension(extension);
-            fs::read(&text).unwrap_or_else(|error| panic!("{}: {error}", text.display()))
-        };
+    let examples = examples("blocks", "blocks");
+    assert!(examples.len() > 45, "{}", examples.len());
+    for example in examples {
+        let name = example.name;
         let keys = name.rsplit_once("keys_").map_or("2", |(_, keys)| keys);
         let keys = keys.parse().expect("a K is a number");
-        let text = fs::read(&path).expect("it can be read");
-        let (numbers, output) = filled(&text, keys, LENT);
-        assert_eq!(output[..numbers[2] as usize], beside("txt"), "{name}");
-        assert_eq!(answer_line(numbers), beside("answer"), "{name}");
-        count += 1;
+        let (numbers, output) = filled(&example.text, keys, LENT);
+        assert_eq!(output[..numbers[2] as usize], example.lines, "{name}");
+        assert_eq!(answer_line(numbers), example.answer, "{name}");
     }
-    assert!(count > 45, "{count}");
 }
 
 /// The sheet with the lines of `average.blocks` sends the mean of four speeds, and all bags.
 #[test]
 fn the_average_is_sent() {
-    let folder = Path::new(env!("CARGO_MANIFEST_DIR")).join("../../examples");
+    let folder = folder();
     let sheet = fs::read(folder.join("average.txt")).expect("the sheet is there");
     let job = read(&sheet).expect("the sheet is accepted");
     let text = fs::read(folder.join("average.blocks")).expect("the program is there");
