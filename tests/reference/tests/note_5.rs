@@ -8,8 +8,9 @@ use examples::{examples, folder};
 use reference::block_run::{difference, tree, Body, Part};
 use reference::blocks::{answer_line, blocks, c_entry, do_lines, translated, LENT, MOST_DEPTH};
 use reference::corners::blocks::{
-    corners, BAD_NUMBERS, EXAMPLES, FAULTS, KEYS_BEYOND, KEY_BEYOND_KEYS, LONG, LONG_REFUSED,
-    NO_COMMANDS, REFUSED, REFUSED_EXAMPLES, TOO_SHORT, WRITTEN,
+    corners, BAD_NUMBERS, EXAMPLES, FAULTS, FAULTS_BEHIND_ELSE, FAULTS_OUTSIDE, KEYS_BEYOND,
+    KEY_BEYOND_KEYS, LONG, LONG_REFUSED, NO_COMMANDS, REFUSED, REFUSED_EXAMPLES, TOO_SHORT,
+    WRITTEN,
 };
 use reference::generate::block_damage::{boundary, damaged, noise};
 use reference::generate::blocks::{accepted, memory_length, messages, Program};
@@ -50,7 +51,8 @@ fn every_corner_gives_what_the_note_says() {
     let written = EXAMPLES.len() + WRITTEN.len() + LONG.len();
     let lines = NO_COMMANDS.len() + BAD_NUMBERS.len() + KEYS_BEYOND.len() + KEY_BEYOND_KEYS.len();
     let texts = TOO_SHORT.len() + REFUSED_EXAMPLES.len() + REFUSED.len() + LONG_REFUSED.len();
-    let pairs = FAULTS.len() * (FAULTS.len() + 7);
+    let pairs = [FAULTS, FAULTS_OUTSIDE, FAULTS_BEHIND_ELSE].map(|f| f.len() * (f.len() + 7));
+    let pairs: usize = pairs.iter().sum();
     assert_eq!(corners.len(), written + lines + texts + pairs);
     for corner in corners {
         let (numbers, output) = filled(&corner.text, corner.keys, corner.lent);

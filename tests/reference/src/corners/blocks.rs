@@ -952,10 +952,11 @@ pub const LONG_REFUSED: &[LongRefused] = &[
     (51, 1, &[(b"end\n", MEGABYTE / 4)]),
 ];
 
-/// A line and the number that it gets where eight blocks are open, the innermost a `while`.
+/// A line and the number that it gets where it stands.
 type Fault = (u32, &'static [u8]);
 
-/// One fault each, or two on the line, of which the first in order counts.
+/// Where eight blocks are open, the innermost a `while`: one fault each, or two on the line, of which
+/// the first in order counts.
 pub const FAULTS: &[Fault] = &[
     // 2 before all that a line can have: "over the whole text".
     (2, b"send\x07"),
@@ -981,40 +982,137 @@ pub const FAULTS: &[Fault] = &[
     (4, b"put 2 9"),
 ];
 
-/// The line behind eight that open blocks.
-const NINTH: u32 = 9;
+/// The same where no block is open: an `end` is at fault too.
+pub const FAULTS_OUTSIDE: &[Fault] = &[
+    (2, b"send\x07"),
+    (2, b"end\r"),
+    (2, b"end 7\x80"),
+    (2, b"else\t"),
+    (2, b"nope\x7f"),
+    (2, b"set 8 \0"),
+    (51, b"end"),
+    (51, b"end 7"),
+    (51, b"else"),
+    (51, b"else 7"),
+    (6, b"nope"),
+    (6, b"set 8"),
+    (4, b"set 8 0"),
+];
 
-/// Two lines at fault, in every order; and each line at fault before a missing `end`, a missing last
-/// line feed, too many commands on either side of it, too little memory, and a K beyond its limit.
+/// The same behind the `else` of the innermost `if`: an `end` closes it, so one with a further part has
+/// no fault but that.
+pub const FAULTS_BEHIND_ELSE: &[Fault] = &[
+    (2, b"send\x07"),
+    (2, b"else\r"),
+    (2, b"else 7\x80"),
+    (2, b"end 7\t"),
+    (2, b"nope\x7f"),
+    (2, b"set 8 \0"),
+    (51, b"else"),
+    (51, b"else 7"),
+    (6, b"end 7"),
+    (6, b"nope"),
+    (6, b"set 8"),
+    (4, b"set 8 0"),
+];
+
+/// A place in a text, and the faults that a line can have there.
+struct Place {
+    /// The lines above it.
+    before: Vec<u8>,
+    faults: &'static [Fault],
+    /// Lines that close every block that is open there.
+    closing: Vec<u8>,
+    /// Lines that leave one block open.
+    unclosing: Vec<u8>,
+}
+
+fn places() -> [Place; 3] {
+    [
+        Place {
+            before: b"while 0\n".repeat(8),
+            faults: FAULTS,
+            closing: b"end\n".repeat(8),
+            unclosing: b"end\n".repeat(7),
+        },
+        Place {
+            before: Vec::new(),
+            faults: FAULTS_OUTSIDE,
+            closing: Vec::new(),
+            unclosing: b"if 0\n".to_vec(),
+        },
+        Place {
+            before: b"if 0\nelse\n".to_vec(),
+            faults: FAULTS_BEHIND_ELSE,
+            closing: b"end\n".to_vec(),
+            unclosing: b"if 0\nend\n".to_vec(),
+        },
+    ]
+}
+
+impl Place {
+    /// The line of it.
+    fn line(&self) -> u32 {
+        lines_of(&self.before) + 1
+    }
+
+    /// The text with these lines there, each without its line feed, and these behind them.
+    fn text(&self, lines: &[&[u8]], behind: &[u8]) -> Vec<u8> {
+        let ended = lines.iter().flat_map(|line| [line, b"\n".as_slice()]);
+        let parts: Vec<&[u8]> = ended.collect();
+        [&self.before, &parts.concat(), behind].concat()
+    }
+}
+
+fn lines_of(text: &[u8]) -> u32 {
+    text.iter().filter(|&&byte| byte == b'\n').count() as u32
+}
+
+/// Two faults in one text, at each of the places.
 fn two_faults() -> Vec<Corner> {
-    let (begin, end) = (b"while 0\n".repeat(8), b"end\n".repeat(8));
-    let many = b"send\n".repeat(65);
-    let feed: &[u8] = b"\n";
     let mut corners = Vec::new();
-    for &(number, line) in FAULTS {
-        for &(other, second) in FAULTS {
-            let text = [&begin, line, feed, second, feed, &end].concat();
-            // "line by line"; but 2 "over the whole text".
-            let wanted = match (number, other) {
-                (2, _) => [2, NINTH],
-                (_, 2) => [2, NINTH + 1],
-                _ => [number, NINTH],
-            };
-            corners.push(refused(wanted, PLENTY, 2, text));
+    for place in places() {
+        for &fault in place.faults {
+            corners.extend(place.faults.iter().map(|&other| pair(&place, fault, other)));
+            corners.extend(with_faults_of_the_text(&place, fault));
         }
-        let at_ninth = |text: Vec<u8>| refused([number, NINTH], PLENTY, 2, text);
-        corners.push(at_ninth([&begin, line, feed].concat()));
-        corners.push(at_ninth([&begin, line, feed, &end[..28]].concat()));
-        corners.push(at_ninth([&begin, line, feed, &many, &end].concat()));
-        let behind = [&begin, &many, line, feed, &end].concat();
-        corners.push(refused([number, NINTH + 65], PLENTY, 2, behind));
-        let text = [&begin, line, feed, &end].concat();
-        corners.push(refused([number, NINTH], 0, 2, text.clone()));
-        corners.push(refused([4, 0], PLENTY, 9, text.clone()));
-        // No last line feed: 2 at the last line, unless a forbidden byte stands before it.
-        let last = if number == 2 { NINTH } else { NINTH + 8 };
-        let unended = text[..text.len() - 1].to_vec();
-        corners.push(refused([2, last], PLENTY, 2, unended));
     }
     corners
+}
+
+/// Two lines at fault: "line by line"; but 2 "over the whole text".
+fn pair(place: &Place, (number, first): Fault, (other, second): Fault) -> Corner {
+    let wanted = match (number, other) {
+        (2, _) => [2, place.line()],
+        (_, 2) => [2, place.line() + 1],
+        _ => [number, place.line()],
+    };
+    let text = place.text(&[first, second], &place.closing);
+    refused(wanted, PLENTY, 2, text)
+}
+
+/// A line at fault before nothing, before a missing `end`, with too many commands on either side of it,
+/// too little memory, a K beyond its limit, and a missing last line feed.
+fn with_faults_of_the_text(place: &Place, (number, line): Fault) -> [Corner; 7] {
+    let wanted = [number, place.line()];
+    let behind = |lines: &[u8]| refused(wanted, PLENTY, 2, place.text(&[line], lines));
+    let many = b"send\n".repeat(65);
+    let late = place.text(&[&many[..many.len() - 1], line], &place.closing);
+    let text = place.text(&[line], &place.closing);
+    let unended = text[..text.len() - 1].to_vec();
+    // 2 at the last line, unless a forbidden byte stands before it.
+    let at = if number == 2 {
+        place.line()
+    } else {
+        lines_of(&text)
+    };
+    [
+        behind(b""),
+        behind(&place.unclosing),
+        behind(&[many.as_slice(), &place.closing].concat()),
+        refused([number, place.line() + 65], PLENTY, 2, late),
+        refused(wanted, 0, 2, text.clone()),
+        refused([4, 0], PLENTY, 9, text),
+        refused([2, at], PLENTY, 2, unended),
+    ]
 }
