@@ -19,7 +19,7 @@ use Rattle.read_blocks.specs.declared.{Mark.Mark, Close.Close, Body.Body
 use Rattle.read_blocks.specs.declared.Item.the-variants.{Got as ItemGot, Over as ItemOver, Else as ItemElse, End as ItemEnd, Refused as ItemRefused}
 use Rattle.read_blocks.proofs.Words.{by-code}
 use Rattle.read_blocks.proofs.Lines.{openerOf, own-refused, over-open, end-bad, else-while, else-else, line-length}
-use Rattle.read_blocks.proofs.Goes.{goes-to, own-goes, nested-on, if-goes, while-goes, else-goes, other-to, other-goes}
+use Rattle.read_blocks.proofs.Goes.{goes-to, own-goes, nested-refused, nested-on, if-goes, while-goes, else-goes, other-to, other-goes}
 
 -- ---- The line at a place
 
@@ -89,31 +89,41 @@ module _ (K d : ℕ) (s : List ℕ) where
   pub stopped-as : (p : Mark) (m m′ : List ℕ) (r : Body) {q : Mark} {x : Close} → BlockRead K d s p m m′ r → p ≡ q → r .stop ≡ x → StoppedAt K d s q (r .place) m m′ x
   stopped-as p m m′ r {q} {x} b f e = subst (λ (z : Mark). StoppedAt K d s z (r .place) m m′ x) f (subst (StoppedAt K d s p (r .place) m m′) e b)
 
-module _ (K d : ℕ) (s : List ℕ) (looping : Bool) (p : Mark) (f e : ℕ) (h : LineAt s p f e (openerWord looping)) (i : Starts s p) (l : d < deepest)
-    (v : ℕ) (t : tested (partsAfter f (take e (drop (p .at) s))) ≡ got v) {m m′ : List ℕ} where
+-- an `if` or a `while` on v at p: its line, and that a block more may be open
+pub record Opened (K d : ℕ) (s : List ℕ) (looping : Bool) (p : Mark) (f e v : ℕ) : Type 0 where
+  pub line : LineAt s p f e (openerWord looping)
+  pub starts : Starts s p
+  pub shallow : d < deepest
+  pub tests : tested (partsAfter f (take e (drop (p .at) s))) ≡ got v
+
+pub nested-refuses : {K d : ℕ} {s : List ℕ} {looping : Bool} {p : Mark} {f e v : ℕ} → Opened K d s looping p f e v → (n l : ℕ) → RefusedFrom K (d + 1) s (nextLine p e 1) n l
+    → RefusedFrom K d s p n l
+nested-refuses {K} {d} {s} {looping} {p} {f} {e} {v} u n l r = nested-refused K d s looping p f e (u .line) (u .starts) (u .shallow) v (u .tests) n l r
+
+module _ {K d : ℕ} {s : List ℕ} {looping : Bool} {p : Mark} {f e v : ℕ} (u : Opened K d s looping p f e v) {m m′ : List ℕ} where
   pub nested-open : {q : Mark} → Goes K (d + 1) s (nextLine p e 1) q m m′ × NoMore s q → RefusedFrom K d s p 51 (q .line)
   unfolding _then_
   nested-open {q} g o k =
-      nested-on K d s looping p f e h i l v t (g .0) o k ∙ over-open K s q (g .1) _ _ _
+      nested-on K d s looping p f e (u .line) (u .starts) (u .shallow) v (u .tests) (g .0) o k ∙ over-open K s q (g .1) _ _ _
 
   pub nested-end : {q : Mark} {f′ e′ : ℕ} → Goes K (d + 1) s (nextLine p e 1) q m m′ × LineAt s q f′ e′ endWord → f′ < e′ → RefusedFrom K d s p 6 (q .line)
   unfolding _then_
   nested-end {q} {f′} {e′} g z o k =
-      nested-on K d s looping p f e h i l v t (g .0) o k ∙ end-bad K d s q f′ e′ (g .1) _ _ _ z
+      nested-on K d s looping p f e (u .line) (u .starts) (u .shallow) v (u .tests) (g .0) o k ∙ end-bad K d s q f′ e′ (g .1) _ _ _ z
 
   -- what follows an `else`
   pub nested-other : looping ≡ false → length m < 65536 → length m′ ≡ length m → {q : Mark} (g : Goes K (d + 1) s (nextLine p e 1) q m m′) (m″ : List ℕ) (r : Item)
       → OtherRead K d s (p .count) v q m′ m″ r → NestedRead K d s p m m″ r
   unfolding OtherRead NestedRead
   nested-other n short same {q} g m″ (ItemGot z) r = (
-    else-goes K d s p f e i l v t (subst (λ (x : Bool). LineAt s p f e (openerWord x)) n h) g r short same,
+    else-goes K d s p f e (u .starts) (u .shallow) v (u .tests) (subst (λ (y : Bool). LineAt s p f e (openerWord y)) n (u .line)) g r short same,
     omega (arith, g .onward, r .onward),
   )
   nested-other n short same g m″ ItemOver r = absurd r
   nested-other n short same g m″ (ItemElse f′ e′) r = absurd r
   nested-other n short same g m″ (ItemEnd f′ e′) r = absurd r
   nested-other n short same {q} g m″ (ItemRefused y x) r = λ o k.
-      nested-on K d s looping p f e h i l v t g o k
+      nested-on K d s looping p f e (u .line) (u .starts) (u .shallow) v (u .tests) g o k
       ∙ ap (λ (b : Bool). reading K s q (adding (g .block) (opening (openerOf b v) o))) n
       ∙ r o (g .block) k
 
@@ -123,7 +133,7 @@ module _ (K d : ℕ) (s : List ℕ) (looping : Bool) (p : Mark) (f e : ℕ) (h :
         → Goes K d s p r m m₁ × (p .at < r .at)
     nested-if n to k test = (
       goes-to K d s to (k ∙ ap (λ (x : Command). set m′ (p .count) (commandNumber x)) test)
-          (if-goes K d s p f e i l v t (subst (λ (x : Bool). LineAt s p f e (openerWord x)) n h) (g .0) f′ e′ (g .1) a short),
+          (if-goes K d s p f e (u .starts) (u .shallow) v (u .tests) (subst (λ (y : Bool). LineAt s p f e (openerWord y)) n (u .line)) (g .0) f′ e′ (g .1) a short),
       omega (arith, g .0 .onward, ap (λ (x : Mark). x .at) to),
     )
 
@@ -132,14 +142,14 @@ module _ (K d : ℕ) (s : List ℕ) (looping : Bool) (p : Mark) (f e : ℕ) (h :
     nested-loop n same to {m₁} k test j jump =
         let k′ = k ∙ ap (λ (x : Command). set m′ (p .count) (commandNumber x)) test in (
           goes-to K d s to (j ∙ ap₂ (λ (x : List ℕ) (y : Command). set x (q .count) (commandNumber y)) k′ jump)
-              (while-goes K d s p f e i l v t (subst (λ (x : Bool). LineAt s p f e (openerWord x)) n h) (g .0) f′ e′ (g .1) a short same),
+              (while-goes K d s p f e (u .starts) (u .shallow) v (u .tests) (subst (λ (y : Bool). LineAt s p f e (openerWord y)) n (u .line)) (g .0) f′ e′ (g .1) a short same),
           omega (arith, g .0 .onward, ap (λ (x : Mark). x .at) to),
         )
 
   pub nested-while : looping ≡ true → {q : Mark} {f′ e′ : ℕ} → Goes K (d + 1) s (nextLine p e 1) q m m′ × LineAt s q f′ e′ elseWord → RefusedFrom K d s p 51 (q .line)
   unfolding _then_
   nested-while n {q} {f′} {e′} g o k =
-      nested-on K d s looping p f e h i l v t (g .0) o k
+      nested-on K d s looping p f e (u .line) (u .starts) (u .shallow) v (u .tests) (g .0) o k
       ∙ ap (λ (b : Bool). reading K s q (adding (g .0 .block) (opening (openerOf b v) o))) n
       ∙ else-while K d s q f′ e′ (g .1) v (o .sofar) (o .blocks) _
 
