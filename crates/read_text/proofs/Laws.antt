@@ -1,17 +1,17 @@
 -- Laws of the definitions on bytes and numbers, in the form in which a loop over a slice meets them: at a place i of the list s.
 use mathlib.Core.Path.{_≡_, refl, sym, ap, _∙_}
 use mathlib.Core.Logic.{_⊎_, inl, inr}
-use mathlib.Core.List.{List, [], _∷_}
+use mathlib.Core.List.{List, [], _∷_, _++_}
 use mathlib.Core.Bool.{Bool, true, false, cond, _&&_, true≢false}
 use Prim.Native.Nat.{ℕ, suc, _+_, _-_, _*_, _<_, _≤_, pred}
 use native.Mathlib.{Numerals.add-one, Omega.arith, Decide.decLt}
-use lib.{Dec.eqb, Dec.leb, ListN.length, ListN.getD, ListN.take, ListN.drop, ListN.drop-of-length-le, ListN.length-drop, Seq.drop-cons, Seq.take-all, IntN.pos}
+use lib.{Dec.eqb, Dec.leb, ListN.length, ListN.getD, ListN.take, ListN.drop, ListN.drop-of-length-le, ListN.length-drop, ListN.take-append-drop, Seq.drop-cons, Seq.drop-drop, Seq.take-all, IntN.pos}
 use lib.{IntN.negsuc}
-use borrow.Author.Tests.{eq-eqb, ne-eqb, leb-true, le-leb, lt-leb}
+use borrow.Author.Tests.{eq-eqb, ne-eqb, eqb-true, leb-true, leb-false, le-leb, lt-leb}
 use Rattle.model.specs.{Limits.greatestNumber, Limits.leastNumber, Parsed.got, Parsed.refused, Parsed._>>=_, Number.digits, Number.digitsTo, Number.within, Number.upTo}
 use Rattle.model.specs.{Number.fromOne, Number.natural, Number.negative, Number.positive, Number.number, Text.find, Text.count, Text.classOf, Text.between}
 use Rattle.model.specs.{Sheet.forbiddenLine, Sheet.closed, Sheet.overText}
-use Rattle.read_text.specs.Text.{forbiddenPlace, spoiltLine, starts}
+use Rattle.read_text.specs.Text.{forbids, spoiltLine, starts}
 
 -- one byte of what is left
 pub uncons : (s : List ℕ) (i : ℕ) → i < length s → drop i s ≡ getD s i 0 ∷ drop (i + 1) s
@@ -39,49 +39,53 @@ pub find-end : (c : ℕ) (s : List ℕ) (i : ℕ) → length s ≤ i → find c 
 unfolding find
 find-end c s i h = rw (done s i h)
 
-pub forbidden-here : (s : List ℕ) (i : ℕ) → i < length s → classOf (getD s i 0) ≡ 10 → forbiddenPlace (drop i s) ≡ 0
-unfolding forbiddenPlace
-forbidden-here s i h e = rw (uncons s i h, eq-eqb _ _ e)
+-- the line of the first forbidden byte of what is left, where n is the line of its first byte
+module _ (n : ℕ) (s : List ℕ) (i : ℕ) where
+  pub line-end : length s ≤ i → forbiddenLine n (drop i s) ≡ 0
+  unfolding forbiddenLine
+  line-end h = rw (done s i h)
 
-pub forbidden-next : (s : List ℕ) (i : ℕ) → i < length s → (classOf (getD s i 0) ≡ 10 → ⊥) → forbiddenPlace (drop i s) ≡ suc (forbiddenPlace (drop (i + 1) s))
-unfolding forbiddenPlace
-forbidden-next s i h e = rw (uncons s i h, ne-eqb _ _ e)
+  module _ (h : i < length s) where
+    pub line-forbidden : classOf (getD s i 0) ≡ 10 → forbiddenLine n (drop i s) ≡ n
+    unfolding forbiddenLine
+    line-forbidden e = rw (uncons s i h, eq-eqb _ _ e)
 
-pub forbidden-end : (s : List ℕ) (i : ℕ) → length s ≤ i → forbiddenPlace (drop i s) ≡ 0
-unfolding forbiddenPlace
-forbidden-end s i h = rw (done s i h)
+    pub line-feed : getD s i 0 ≡ 10 → forbiddenLine n (drop i s) ≡ forbiddenLine (n + 1) (drop (i + 1) s)
+    unfolding forbiddenLine classOf
+    line-feed e = rw (uncons s i h, e)
 
--- the line of the first forbidden byte, by its place
-pub forbidden-none : (n : ℕ) (s : List ℕ) → length s ≤ forbiddenPlace s → forbiddenLine n s ≡ 0
-unfolding forbiddenLine forbiddenPlace
-forbidden-none n [] h = refl
-forbidden-none n (b ∷ bs) h = go (eqb (classOf b) 10) (λ m g. forbidden-none m bs g) h
-  where
-    go : (t : Bool) → ((m : ℕ) → length bs ≤ forbiddenPlace bs → forbiddenLine m bs ≡ 0) → suc (length bs) ≤ cond t 0 (suc (forbiddenPlace bs)) → cond t n (forbiddenLine (cond (eqb b 10) (n + 1) n) bs) ≡ 0
-    go true rest g = absurd (omega arith)
-    go false rest g = rest _ (omega arith)
+    pub line-same : (classOf (getD s i 0) ≡ 10 → ⊥) → (getD s i 0 ≡ 10 → ⊥) → forbiddenLine n (drop i s) ≡ forbiddenLine n (drop (i + 1) s)
+    unfolding forbiddenLine
+    line-same e f = rw (uncons s i h, ne-eqb _ _ e, ne-eqb _ _ f)
 
-pub forbidden-found : (n : ℕ) (s : List ℕ) → forbiddenPlace s < length s → forbiddenLine n s ≡ n + count 10 (take (forbiddenPlace s) s)
-unfolding forbiddenLine forbiddenPlace count
-forbidden-found n [] h = absurd (omega arith)
-forbidden-found n (b ∷ bs) h = go (eqb (classOf b) 10) (λ m g. forbidden-found m bs g) h
-  where
-    line : (t : Bool) (c : ℕ) → cond t (n + 1) n + c ≡ n + cond t (suc c) c
-    line true c = omega arith
-    line false c = refl
+-- ---- The classes of bytes
 
-    go : (t : Bool) → ((m : ℕ) → forbiddenPlace bs < length bs → forbiddenLine m bs ≡ m + count 10 (take (forbiddenPlace bs) bs)) → cond t 0 (suc (forbiddenPlace bs)) < suc (length bs)
-        → cond t n (forbiddenLine (cond (eqb b 10) (n + 1) n) bs) ≡ n + count 10 (take (cond t 0 (suc (forbiddenPlace bs))) (b ∷ bs))
-    go true rest g = omega arith
-    go false rest g = rest (cond (eqb b 10) (n + 1) n) (omega arith) ∙ line (eqb b 10) (count 10 (take (forbiddenPlace bs) bs))
-
-nonzero : (t : Bool) (x y : ℕ) → (x ≡ 0 → ⊥) → (y ≡ 0 → ⊥) → cond t x y ≡ 0 → ⊥
-nonzero true x y f g e = f e
-nonzero false x y f g e = g e
+neither : {c : ℕ} (t : Bool) (x y : ℕ) → (x ≡ c → ⊥) → (y ≡ c → ⊥) → cond t x y ≡ c → ⊥
+neither true x y f g e = f e
+neither false x y f g e = g e
 
 pub and-both : (p q : Bool) → p && q ≡ true → (p ≡ true) × (q ≡ true)
 and-both true q e = (refl, e)
 and-both false q e = absurd (let z : _≡_ {A = ℕ} 0 1 = ap (λ (b : Bool). cond b 1 0) e in omega arith)
+
+-- a byte of a range, and one outside of it
+pub between-in : (lo hi b : ℕ) → between lo hi b ≡ true → (lo ≤ b) × (b ≤ hi)
+between-in lo hi b e = let q = and-both (leb lo b) (leb b hi) e in (leb-true _ _ (q .0), leb-true _ _ (q .1))
+
+pub between-out : (lo hi b : ℕ) → between lo hi b ≡ false → (b < lo) ⊎ (hi < b)
+between-out lo hi b e = go (decLt b lo)
+  where
+    go : Dec (b < lo) → (b < lo) ⊎ (hi < b)
+    go (yes h) = inl h
+    go (no h) = inr (leb-false b hi (rw (le-leb lo b (omega arith)) at e))
+
+-- outside of a range is outside of what lies in it
+pub between-less : {lo hi : ℕ} (b : ℕ) → between lo hi b ≡ false → (lo′ hi′ : ℕ) → lo ≤ lo′ → hi′ ≤ hi → between lo′ hi′ b ≡ false
+between-less {lo} {hi} b e lo′ hi′ l h = go (between lo′ hi′ b) refl
+  where
+    go : (t : Bool) → between lo′ hi′ b ≡ t → t ≡ false
+    go true p = let q = between-in lo′ hi′ b p in rw (le-leb lo b (omega arith), le-leb b hi (omega arith)) at e
+    go false p = refl
 
 -- a byte of class 0 is a digit
 pub class-digit : (b : ℕ) → classOf b ≡ 0 → (48 ≤ b) × (b ≤ 57)
@@ -89,23 +93,122 @@ unfolding classOf
 class-digit b e = go (between 48 57 b) refl
   where
     go : (t : Bool) → between 48 57 b ≡ t → (48 ≤ b) × (b ≤ 57)
-    go true p = let q = and-both (leb 48 b) (leb b 57) p in (leb-true _ _ (q .0), leb-true _ _ (q .1))
+    go true p = between-in 48 57 b p
     go false p =
-        absurd (nonzero (eqb b 45) 1 _ (omega arith)
-        (nonzero (eqb b 44) 2 _ (omega arith)
-        (nonzero (eqb b 58) 3 _ (omega arith)
-        (nonzero (eqb b 61) 4 _ (omega arith)
-        (nonzero (eqb b 32) 5 _ (omega arith)
-        (nonzero (eqb b 10) 6 _ (omega arith)
-        (nonzero (between 97 122 b) 7 _ (omega arith)
-        (nonzero (between 65 90 b) 8 _ (omega arith)
-        (nonzero (between 32 126 b) 9 10 (omega arith) (omega arith)))))))))
+        absurd (neither (eqb b 45) 1 _ (omega arith)
+        (neither (eqb b 44) 2 _ (omega arith)
+        (neither (eqb b 58) 3 _ (omega arith)
+        (neither (eqb b 61) 4 _ (omega arith)
+        (neither (eqb b 32) 5 _ (omega arith)
+        (neither (eqb b 10) 6 _ (omega arith)
+        (neither (between 97 122 b) 7 _ (omega arith)
+        (neither (between 65 90 b) 8 _ (omega arith)
+        (neither (between 32 126 b) 9 10 (omega arith) (omega arith)))))))))
         (rw p at e))
 
--- and a digit is of class 0
+-- a byte of class 6 is a line feed
+pub class-feed : (b : ℕ) → classOf b ≡ 6 → b ≡ 10
+unfolding classOf
+class-feed b e = go (eqb b 10) refl
+  where
+    go : (t : Bool) → eqb b 10 ≡ t → b ≡ 10
+    go true p = eqb-true b 10 p
+    go false p =
+        absurd (neither (between 48 57 b) 0 _ (omega arith)
+        (neither (eqb b 45) 1 _ (omega arith)
+        (neither (eqb b 44) 2 _ (omega arith)
+        (neither (eqb b 58) 3 _ (omega arith)
+        (neither (eqb b 61) 4 _ (omega arith)
+        (neither (eqb b 32) 5 _ (omega arith)
+        (neither (between 97 122 b) 7 _ (omega arith)
+        (neither (between 65 90 b) 8 _ (omega arith)
+        (neither (between 32 126 b) 9 10 (omega arith) (omega arith)))))))))
+        (rw p at e))
+
+pub feed-class : (b : ℕ) → b ≡ 10 → classOf b ≡ 6
+unfolding classOf
+feed-class b e = rw e
+
+-- and a digit is of class 0; so of the other ranges
 pub digit-class : (b : ℕ) → 48 ≤ b → b ≤ 57 → classOf b ≡ 0
 unfolding classOf
 digit-class b h l = rw (le-leb 48 b h, le-leb b 57 l)
+
+pub small-class : (b : ℕ) → 97 ≤ b → b ≤ 122 → classOf b ≡ 7
+unfolding classOf
+small-class b h l =
+    rw (
+      lt-leb b 57 (omega arith),
+      ne-eqb b 45 (omega arith),
+      ne-eqb b 44 (omega arith),
+      ne-eqb b 58 (omega arith),
+      ne-eqb b 61 (omega arith),
+      ne-eqb b 32 (omega arith),
+      ne-eqb b 10 (omega arith),
+      le-leb 48 b (omega arith),
+      le-leb 97 b h,
+      le-leb b 122 l,
+    )
+
+pub capital-class : (b : ℕ) → 65 ≤ b → b ≤ 90 → classOf b ≡ 8
+unfolding classOf
+capital-class b h l =
+    rw (
+      lt-leb b 57 (omega arith),
+      ne-eqb b 45 (omega arith),
+      ne-eqb b 44 (omega arith),
+      ne-eqb b 58 (omega arith),
+      ne-eqb b 61 (omega arith),
+      ne-eqb b 32 (omega arith),
+      ne-eqb b 10 (omega arith),
+      le-leb 48 b (omega arith),
+      lt-leb 97 b (omega arith),
+      le-leb 65 b h,
+      le-leb b 90 l,
+    )
+
+pub other-class : (b : ℕ) → 32 ≤ b → b ≤ 126 → between 48 57 b ≡ false → (b ≡ 45 → ⊥) → (b ≡ 44 → ⊥) → (b ≡ 58 → ⊥) → (b ≡ 61 → ⊥) → (b ≡ 32 → ⊥)
+    → between 97 122 b ≡ false → between 65 90 b ≡ false → classOf b ≡ 9
+unfolding classOf
+other-class b h l digit m c o e s small capital =
+    rw (digit, ne-eqb b 45 m, ne-eqb b 44 c, ne-eqb b 58 o, ne-eqb b 61 e, ne-eqb b 32 s, ne-eqb b 10 (omega arith), small, capital, le-leb 32 b h, le-leb b 126 l)
+
+-- a byte below or above all ranges is forbidden, unless it is a line feed
+pub below-class : (b : ℕ) → b < 32 → (b ≡ 10 → ⊥) → classOf b ≡ 10
+unfolding classOf
+below-class b h n =
+    rw (
+      lt-leb 48 b (omega arith),
+      ne-eqb b 45 (omega arith),
+      ne-eqb b 44 (omega arith),
+      ne-eqb b 58 (omega arith),
+      ne-eqb b 61 (omega arith),
+      ne-eqb b 32 (omega arith),
+      ne-eqb b 10 n,
+      lt-leb 97 b (omega arith),
+      lt-leb 65 b (omega arith),
+      lt-leb 32 b h,
+    )
+
+pub above-class : (b : ℕ) → 126 < b → classOf b ≡ 10
+unfolding classOf
+above-class b h =
+    rw (
+      lt-leb b 57 (omega arith),
+      ne-eqb b 45 (omega arith),
+      ne-eqb b 44 (omega arith),
+      ne-eqb b 58 (omega arith),
+      ne-eqb b 61 (omega arith),
+      ne-eqb b 32 (omega arith),
+      ne-eqb b 10 (omega arith),
+      le-leb 48 b (omega arith),
+      lt-leb b 122 (omega arith),
+      le-leb 97 b (omega arith),
+      lt-leb b 90 (omega arith),
+      le-leb 65 b (omega arith),
+      lt-leb b 126 h,
+      le-leb 32 b (omega arith),
+    )
 
 -- digits: a byte more, a byte that is none, the end, and a value that is past the limit already
 pub digits-next : (m a : ℕ) (s : List ℕ) (i : ℕ) → i < length s → classOf (getD s i 0) ≡ 0
@@ -228,18 +331,89 @@ closed-last (b ∷ c ∷ s) h =
     let e : suc (suc (length s)) - 1 ≡ suc (suc (length s) - 1) = omega arith in
     closed-last (c ∷ s) (omega arith) ∙ ap (λ (n : ℕ). eqb (getD (b ∷ c ∷ s) n 0) 10) (sym e)
 
--- a text that does not end with a line feed has a byte that is none
-open-most : (s : List ℕ) → 1 ≤ length s → closed s ≡ false → count 10 s < length s
-unfolding closed count
-open-most [] h e = absurd (omega arith)
-open-most (b ∷ []) h e = rw e (omega arith)
-open-most (b ∷ c ∷ s) h e = go (eqb b 10) (open-most (c ∷ s) (omega arith) e)
-  where
-    go : (t : Bool) → count 10 (c ∷ s) < length (c ∷ s) → cond t (suc (count 10 (c ∷ s))) (count 10 (c ∷ s)) < suc (length (c ∷ s))
-    go true h = omega arith
-    go false h = omega arith
+-- the last byte of a text that ends with a line feed, and of one that does not
+module _ (s : List ℕ) (i : ℕ) (e : i + 1 ≡ length s) where
+  last-is : closed s ≡ eqb (getD s i 0) 10
+  last-is = let q : length s - 1 ≡ i = omega arith in closed-last s (omega arith) ∙ ap (λ (n : ℕ). eqb (getD s n 0) 10) q
+
+  pub last-closed : getD s i 0 ≡ 10 → closed s ≡ true
+  last-closed h = last-is ∙ eq-eqb _ _ h
+
+  pub last-open : (getD s i 0 ≡ 10 → ⊥) → closed s ≡ false
+  last-open h = last-is ∙ ne-eqb _ _ h
 
 -- ---- Refusal 2
+
+-- a forbidden byte: at a place, after it, and at the end
+module _ (s : List ℕ) (i : ℕ) where
+  pub forbids-end : length s ≤ i → forbids (drop i s) ≡ false
+  unfolding forbids
+  forbids-end h = rw (done s i h)
+
+  module _ (h : i < length s) where
+    pub forbids-here : classOf (getD s i 0) ≡ 10 → forbids (drop i s) ≡ true
+    unfolding forbids
+    forbids-here e = rw (uncons s i h, eq-eqb _ _ e)
+
+    pub forbids-next : (classOf (getD s i 0) ≡ 10 → ⊥) → forbids (drop i s) ≡ forbids (drop (i + 1) s)
+    unfolding forbids
+    forbids-next e = rw (uncons s i h, ne-eqb _ _ e)
+
+forbids-join : (s t : List ℕ) → forbids (s ++ t) ≡ cond (forbids s) true (forbids t)
+unfolding forbids
+forbids-join [] t = refl
+forbids-join (b ∷ s) t = go (eqb (classOf b) 10) (forbids-join s t)
+  where
+    go : (x : Bool) → forbids (s ++ t) ≡ cond (forbids s) true (forbids t) → cond x true (forbids (s ++ t)) ≡ cond (cond x true (forbids s)) true (forbids t)
+    go true e = refl
+    go false e = e
+
+-- what is cut at a place
+module _ (n : ℕ) (s : List ℕ) where
+  forbids-cut : forbids s ≡ cond (forbids (take n s)) true (forbids (drop n s))
+  forbids-cut = ap forbids (sym (take-append-drop n s)) ∙ forbids-join (take n s) (drop n s)
+
+  pub front-allowed : forbids s ≡ false → forbids (take n s) ≡ false
+  front-allowed e = go (forbids (take n s)) (forbids (drop n s)) (sym e ∙ forbids-cut)
+    where
+      go : (x y : Bool) → false ≡ cond x true y → x ≡ false
+      go true y e = sym e
+      go false y e = refl
+
+  pub back-allowed : forbids s ≡ false → forbids (drop n s) ≡ false
+  back-allowed e = go (forbids (take n s)) (forbids (drop n s)) (sym e ∙ forbids-cut)
+    where
+      go : (x y : Bool) → false ≡ cond x true y → y ≡ false
+      go true y e = absurd (true≢false (sym e))
+      go false y e = sym e
+
+  pub both-allowed : forbids (take n s) ≡ false → forbids (drop n s) ≡ false → forbids s ≡ false
+  both-allowed e f = forbids-cut ∙ rw (e, f)
+
+-- a part of m bytes from a on: where it has a forbidden byte, the text has one
+pub part-forbids : (m a : ℕ) (s : List ℕ) → forbids (take m (drop a s)) ≡ true → forbids s ≡ true
+part-forbids m a s e = go (forbids s) refl
+  where
+    go : (x : Bool) → forbids s ≡ x → x ≡ true
+    go true h = refl
+    go false h = sym (front-allowed m (drop a s) (back-allowed a s h)) ∙ e
+
+-- and where it has none, the bytes from i on have none if those behind the part have none
+pub part-allowed : (m a i : ℕ) (s : List ℕ) → a ≤ i → forbids (take m (drop a s)) ≡ false → forbids (drop (a + m) s) ≡ false → forbids (drop i s) ≡ false
+part-allowed m a i s h e f =
+    let q : a + (i - a) ≡ i = omega arith in
+    let from-a = both-allowed m (drop a s) e (ap forbids (drop-drop m a s) ∙ f) in
+    sym (ap forbids (drop-drop (i - a) a s ∙ ap (λ (n : ℕ). drop n s) q)) ∙ back-allowed (i - a) (drop a s) from-a
+
+-- of a text without a forbidden byte no line is named
+pub allowed-line : (n : ℕ) (s : List ℕ) → forbids s ≡ false → forbiddenLine n s ≡ 0
+unfolding forbids forbiddenLine
+allowed-line n [] e = refl
+allowed-line n (b ∷ bs) e = go (eqb (classOf b) 10) (λ m f. allowed-line m bs f) e
+  where
+    go : (x : Bool) → ((m : ℕ) → forbids bs ≡ false → forbiddenLine m bs ≡ 0) → cond x true (forbids bs) ≡ false → cond x n (forbiddenLine (cond (eqb b 10) (n + 1) n) bs) ≡ 0
+    go true f e = absurd (true≢false e)
+    go false f e = f _ e
 
 -- what a text comes to, by the line that refusal 2 names: refuse tells the refusals, and a is what comes of the text otherwise
 module _ {A : Type 0} (refuse : ℕ → ℕ → A) (s : List ℕ) (a : A) where
@@ -295,14 +469,6 @@ module _ (s : List ℕ) where
       go true y = forbidden-most 1 s
       go false true = omega arith
       go false false = omega (arith, count-most 10 s)
-
-  -- the line after the last one is one of as many as there are bytes, or the first
-  pub open-fits : closed s ≡ false → (count 10 s + 1 ≤ length s) ⊎ (length s ≡ 0)
-  open-fits e = go (decLt 0 (length s))
-    where
-      go : Dec (0 < length s) → (count 10 s + 1 ≤ length s) ⊎ (length s ≡ 0)
-      go (yes h) = inl (omega (arith, open-most s h e))
-      go (no h) = inr (omega arith)
 
 -- a number from 1
 pub from-one-bad : (m : ℕ) (s : List ℕ) (r : ℕ) → upTo m s ≡ refused r → fromOne m s ≡ refused r

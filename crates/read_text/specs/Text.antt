@@ -2,7 +2,7 @@
 use mathlib.Core.Path.{_≡_}
 use mathlib.Core.Bool.{Bool, true, false, cond}
 use mathlib.Core.List.{List, [], _∷_, _++_}
-use Prim.Native.Nat.{ℕ, suc}
+use Prim.Native.Nat.{ℕ}
 use lib.{Dec.eqb, IntN.ℤ}
 use Rattle.model.specs.{Parsed.Parsed, Parsed.got, Parsed.refused, Text.classOf, Text.forbiddenClass, Text.lineFeed, Text.equalsSign, Text.free, Sheet.overText}
 use Rattle.read_text.specs.declared.{Natural.Natural, Whole.Whole}
@@ -17,10 +17,10 @@ abbrev pub wholeAs : Whole → Parsed ℤ
 wholeAs (WholeGot n) = got n
 wholeAs (WholeRefused n) = refused n
 
--- the place of the first forbidden byte, or the length where there is none
-unfoldable pub forbiddenPlace : List ℕ → ℕ
-forbiddenPlace [] = 0
-forbiddenPlace (b ∷ bs) = cond (eqb (classOf b) forbiddenClass) 0 (suc (forbiddenPlace bs))
+-- a text has a forbidden byte
+unfoldable pub forbids : List ℕ → Bool
+forbids [] = false
+forbids (b ∷ bs) = cond (eqb (classOf b) forbiddenClass) true (forbids bs)
 
 -- the line that refusal 2 names, or 0 where it does not apply
 unfoldable pub spoiltLine : List ℕ → ℕ

@@ -1,18 +1,21 @@
 // Bytes and numbers of a sheet.
-//
-// A table that is indexed inside a loop would be built again at every turn of it, so the loop over the whole sheet takes the table into a local first, and
-// the digits of a number, which are few, are told by their range.
-mod classes;
-
-use classes::CLASSES;
-use classes::FORBIDDEN;
 use model::GREATEST_NUMBER;
 use model::LEAST_NUMBER;
 ghost use mathlib.Core.Path.{_≡_};
-ghost use Prim.Native.Nat.{_<_};
-ghost use Rattle.model.specs.{Text.classOf, Text.find, Text.count, Number.digitsTo, Number.upTo, Number.fromOne, Number.negative, Number.positive, Number.number};
-ghost use Rattle.model.specs.{Sheet.forbiddenLine, Sheet.closed};
-ghost use Rattle.read_text.specs.Text.{naturalAs, wholeAs, forbiddenPlace, spoiltLine, starts};
+ghost use mathlib.Core.Bool.{_&&_, not};
+ghost use Prim.Native.Nat.{_+_, _<_, _≤_};
+ghost use lib.{Dec.leb, ListN.length};
+ghost use Rattle.model.specs.{Text.between, Text.classOf, Text.find, Number.digitsTo, Number.upTo, Number.fromOne, Number.negative, Number.positive, Number.number};
+ghost use Rattle.model.specs.Sheet.{closed};
+ghost use Rattle.read_text.specs.Text.{naturalAs, wholeAs, forbids, spoiltLine, starts};
+
+// The classes that a scan asks for, numbered from 0 in document 01's order.
+const LINE_FEED: u8 = 6;
+
+const FORBIDDEN: u8 = 10;
+
+// The bytes that a scan tests at once.
+const AT_ONCE: usize = 16;
 
 // A number from 0 to a limit, or the number of its refusal.
 pub enum Natural {
@@ -26,38 +29,51 @@ pub enum Whole {
     Refused(u32),
 }
 
+fn within(lo: u8, hi: u8, b: u8) -> bool
+    ensures { λ r. ⌜ r ≡ between lo hi b ⌝ }
+{
+    if b < lo {
+        return false;
+    }
+    b <= hi
+}
+
+// The class of a byte, by tests on its ranges. The bytes outside of the largest range come first: of a caller that asks for the forbidden ones alone, a
+// compiler keeps these tests and no others.
 pub fn class_of(b: u8) -> u8
     ensures { λ r. ⌜ r ≡ classOf b ⌝ }
 {
-    CLASSES[b as usize]
-}
-
-// The place of the first forbidden byte, or the length where there is none.
-fn forbidden_place(s: &[u8]) -> usize
-    ensures { λ r. ⌜ r ≡ forbiddenPlace (now (s .entry)) ⌝ }
-{
-    let table = CLASSES;
-    let mut i = 0;
-    while i < s.len() {
-        let b = s[i];
-        let class = table[b as usize];
-        if class == FORBIDDEN {
-            return i;
+    if !within(b' ', b'~', b) {
+        if b == b'\n' {
+            return LINE_FEED;
         }
-        i += 1;
+        return FORBIDDEN;
     }
-    i
-}
-
-// The line of the first forbidden byte, or 0 where there is none. The lines before it are counted only once it is found.
-fn forbidden_line(s: &[u8]) -> usize
-    ensures { λ r. ⌜ r ≡ forbiddenLine 1 (now (s .entry)) ⌝ }
-{
-    let i = forbidden_place(s);
-    if s.len() <= i {
+    if within(b'0', b'9', b) {
         return 0;
     }
-    1 + count_byte(&s[..i], b'\n')
+    if b == b'-' {
+        return 1;
+    }
+    if b == b',' {
+        return 2;
+    }
+    if b == b':' {
+        return 3;
+    }
+    if b == b'=' {
+        return 4;
+    }
+    if b == b' ' {
+        return 5;
+    }
+    if within(b'a', b'z', b) {
+        return 7;
+    }
+    if within(b'A', b'Z', b) {
+        return 8;
+    }
+    9
 }
 
 // The place of the first c, or the length where there is none. Two bytes at a time: most of a sheet's bytes are passed here.
@@ -83,21 +99,6 @@ pub fn find_byte(s: &[u8], c: u8) -> usize
     i
 }
 
-// How many c there are.
-fn count_byte(s: &[u8], c: u8) -> usize
-    ensures { λ r. ⌜ r ≡ count c (now (s .entry)) ⌝ }
-{
-    let mut n: usize = 0;
-    let mut i = 0;
-    while i < s.len() {
-        if s[i] == c {
-            n += 1;
-        }
-        i += 1;
-    }
-    n
-}
-
 // Whether the last byte is a line feed.
 fn is_closed(s: &[u8]) -> bool
     ensures { λ r. ⌜ r ≡ closed (now (s .entry)) ⌝ }
@@ -109,19 +110,81 @@ fn is_closed(s: &[u8]) -> bool
     s[n - 1] == b'\n'
 }
 
+// Whether one of these bytes is forbidden. What a byte is does not decide which comes next, so that a compiler tests many of them in one step.
+fn has_forbidden(s: &[u8]) -> bool
+    ensures { λ r. ⌜ r ≡ forbids (now (s .entry)) ⌝ }
+{
+    let mut found = false;
+    let mut i = 0;
+    while i < s.len() {
+        if class_of(s[i]) == FORBIDDEN {
+            found = true;
+        }
+        i += 1;
+    }
+    found
+}
+
+// Where the next bytes to test start, if i of n bytes are tested: the last ones of all are tested together, even if some of them were before.
+fn next_start(i: usize, n: usize) -> usize
+    requires { ⌜ (i < n) × (16 ≤ n) ⌝ }
+    ensures { λ r. ⌜ (r ≤ i) × (i < r + 16) × (r + 16 ≤ n) ⌝ }
+{
+    if n - i < AT_ONCE { n - AT_ONCE } else { i }
+}
+
+// Whether there are bytes enough to test them so many at once, and none is forbidden.
+fn all_allowed(s: &[u8]) -> bool
+    ensures { λ r. ⌜ r ≡ leb 16 (length (now (s .entry))) && not (forbids (now (s .entry))) ⌝ }
+{
+    let n = s.len();
+    if n < AT_ONCE {
+        return false;
+    }
+    let mut i = 0;
+    while i < n {
+        let a = next_start(i, n);
+        if has_forbidden(&s[a..a + AT_ONCE]) {
+            return false;
+        }
+        i = a + AT_ONCE;
+    }
+    true
+}
+
+// The line that refusal 2 names, or 0 where it does not apply, byte by byte.
+fn fault_line(s: &[u8]) -> usize
+    ensures { λ r. ⌜ r ≡ spoiltLine (now (s .entry)) ⌝ }
+{
+    let mut line: usize = 1;
+    let mut i = 0;
+    while i < s.len() {
+        let class = class_of(s[i]);
+        if class == FORBIDDEN {
+            return line;
+        }
+        i += 1;
+        if class == LINE_FEED {
+            if s.len() <= i {
+                return 0;
+            }
+            line += 1;
+        }
+    }
+    line
+}
+
 // The line that refusal 2 names, or 0 where it does not apply: that of the first forbidden byte, or the one after the last line feed where the last byte is
-// none.
+// none. Lines are counted only where there is a fault, or little text.
 pub fn spoilt_line(s: &[u8]) -> usize
     ensures { λ r. ⌜ r ≡ spoiltLine (now (s .entry)) ⌝ }
 {
-    let n = forbidden_line(s);
-    if n != 0 {
-        return n;
-    }
     if is_closed(s) {
-        return 0;
+        if all_allowed(s) {
+            return 0;
+        }
     }
-    1 + count_byte(s, b'\n')
+    fault_line(s)
 }
 
 pub fn starts_with(t: &[u8], p: &[u8]) -> bool

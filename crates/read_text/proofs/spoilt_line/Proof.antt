@@ -1,32 +1,19 @@
--- The line of a forbidden byte, or else the one behind the last line feed; that number fits, as a text that is not closed has a byte that is no line feed.
-use mathlib.Core.Path.{_∙_, sym}
-use mathlib.Core.Logic.{⊎-elim}
-use native.Mathlib.Omega.{arith}
+-- A text that ends with a line feed and has no forbidden byte has no fault; of any other the line is found byte by byte.
+use mathlib.Core.Path.{sym, _∙_}
+use mathlib.Core.Bool.{not}
+use lib.{Dec.leb, ListN.length}
 use borrow.Author.Needs.{needs}
-use Rattle.read_text.proofs.Laws.{count-most, spoilt-forbidden, spoilt-none, spoilt-open, open-fits}
+use borrow.Author.Tests.{not-true}
+use Rattle.read_text.specs.Text.{forbids}
+use Rattle.read_text.proofs.Laws.{and-both, allowed-line, spoilt-none}
 use Rattle.read_text.proofs.spoilt_line.Statement.{statement}
 use Rattle.read_text.proofs.spoilt_line.Tie as tie
 
-add-result : tie.Need-add-result
-add-result c =
-    let s = c .before .before .before .before .before .before .args .s .now in
-    let e = sym (c .before .before .is-closed .ensures) ∙ c .before .if2 .left in
-    ⊎-elim (λ h. omega (arith, c .count-byte .ensures)) (λ h. omega (arith, c .count-byte .ensures, count-most 10 s)) (open-fits s e)
-
-returns-3 : tie.Need-returns-3
-returns-3 c =
-    let z = c .before .before .before .before .forbidden-line .ensures in
-    let e = sym (c .before .before .is-closed .ensures) ∙ c .before .if2 .left in
-    omega (arith, c .count-byte .ensures, spoilt-open _ (omega arith) e)
+returns : tie.Need-returns
+returns c =
+    let s = c .before .before .before .before .before .args .s .now in
+    let e = and-both (leb 16 (length s)) (not (forbids s)) (sym (c .before .all-allowed .ensures) ∙ c .if2 .taken) in
+    sym (spoilt-none s (allowed-line 1 s (not-true _ (e .1))) (sym (c .before .before .before .is-closed .ensures) ∙ c .before .before .if1 .taken))
 
 pub spoilt-line-spec : {M : Type 1} → statement M
-spoilt-line-spec =
-    tie.close
-    (tie.spec
-    (λ c κs. search needs)
-    (λ c. let z = c .before .forbidden-line .ensures in z ∙ sym (spoilt-forbidden _ (omega arith)))
-    (λ c κs. search needs)
-    (λ c. let z = c .before .before .before .forbidden-line .ensures in sym (spoilt-none _ (omega arith) (sym (c .before .is-closed .ensures) ∙ c .if2 .taken)))
-    (λ c κs. search needs)
-    add-result
-    returns-3)
+spoilt-line-spec = tie.close (tie.spec (λ c κs. search needs) (λ c κs. search needs) returns (λ c κs. search needs) (λ c. search needs))
