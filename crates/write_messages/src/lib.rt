@@ -5,6 +5,7 @@ use model::KEY_CAPACITY;
 use model::MESSAGE_CAPACITY;
 use model::MessageLine;
 use write_text::put_byte;
+use write_text::put_if;
 use write_text::put_natural;
 use write_text::put_whole;
 use write_text::put_word;
@@ -31,10 +32,7 @@ fn put_part(out: &mut [u8], at: usize, first: bool, k: usize, v: i32) -> usize
     requires { ⌜ (k < keyCapacity) × Room (now out) at (partText first k v) ⌝ }
     ensures { λ r. ⌜ Put (now (out .entry)) at (partText first k v) (now (out .exit)) r ⌝ }
 {
-    if first {
-        return put_pair(out, at, k, v);
-    }
-    let part = put_byte(out, at, b',');
+    let part = put_if(out, at, !first, b',');
     put_pair(out, part, k, v)
 }
 

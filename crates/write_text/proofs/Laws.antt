@@ -11,7 +11,7 @@ use borrow.Author.Tests.{ltb-true, lt-ltb, le-ltb}
 use Rattle.model.specs.{Text.minus, Placed.placed, Decimal.widthTo, Decimal.width, Decimal.mostDigits, Decimal.natural, Decimal.whole, Written.text, Written.written}
 use Rattle.model.specs.Written.{write}
 use Rattle.model.proofs.{Placed.placed-nil, Placed.placed-append, Placed.placed-length, Placed.placed-front, Decimal.tens, Decimal.tens-last, Decimal.tens-most, Line.digits-length, Written.write-fits}
-use Rattle.write_text.specs.Put.{Put, Room}
+use Rattle.write_text.specs.Put.{Put, Room, byteIf}
 
 -- a text, and another behind it
 pub put-then : {d d′ d″ s t : List ℕ} {at p q : ℕ} → Put d at s d′ p → Put d′ p t d″ q → Put d at (s ++ t) d″ q
@@ -142,15 +142,10 @@ unfolding natural
 natural-length n = digits-length (width n) n
 
 -- a number of the full range, by the sign that the machine finds
-pub whole-neg : (z : ℤ) → ltZ z (pos 0) ≡ true → whole z ≡ (minus ∷ []) ++ natural (natAbs z)
+pub whole-is : (z : ℤ) → whole z ≡ byteIf (ltZ z (pos 0)) minus ++ natural (natAbs z)
 unfolding whole
-whole-neg (pos n) e = absurd (omega (arith, ltb-true n 0 e))
-whole-neg (negsuc n) e = refl
-
-pub whole-pos : (z : ℤ) → ltZ z (pos 0) ≡ false → whole z ≡ natural (natAbs z)
-unfolding whole
-whole-pos (pos n) e = refl
-whole-pos (negsuc n) e = absurd (true≢false e)
+whole-is (pos n) = rw (le-ltb n 0 (omega arith))
+whole-is (negsuc n) = refl
 
 -- ---- A text of which the rest is still to put
 

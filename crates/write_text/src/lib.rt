@@ -7,7 +7,7 @@ ghost use mathlib.Core.List.{[], _∷_};
 ghost use Prim.Native.Nat.{_+_, _≤_};
 ghost use lib.{ListN.length, IntN.natAbs};
 ghost use Rattle.model.specs.{Placed.placed, Decimal.digits, Decimal.width, Decimal.natural, Decimal.whole};
-ghost use Rattle.write_text.specs.Put.{Put, Room};
+ghost use Rattle.write_text.specs.Put.{Put, Room, byteIf};
 
 pub fn magnitude(x: i32) -> u32
     ensures { λ r. ⌜ r ≡ natAbs x ⌝ }
@@ -54,6 +54,17 @@ pub fn put_byte(out: &mut [u8], at: usize, b: u8) -> usize
     next
 }
 
+// A byte where it is wanted, and nothing where it is not. What follows is put in one place of the code for both.
+pub fn put_if(out: &mut [u8], at: usize, wanted: bool, b: u8) -> usize
+    requires { ⌜ Room (now out) at (byteIf wanted b) ⌝ }
+    ensures { λ r. ⌜ Put (now (out .entry)) at (byteIf wanted b) (now (out .exit)) r ⌝ }
+{
+    if wanted {
+        return put_byte(out, at, b);
+    }
+    at
+}
+
 pub fn put_word(out: &mut [u8], at: usize, word: &[u8]) -> usize
     requires { ⌜ Room (now out) at (now word) ⌝ }
     ensures { λ r. ⌜ Put (now (out .entry)) at (now (word .entry)) (now (out .exit)) r ⌝ }
@@ -85,9 +96,6 @@ pub fn put_whole(out: &mut [u8], at: usize, x: i32) -> usize
     ensures { λ r. ⌜ Put (now (out .entry)) at (whole x) (now (out .exit)) r ⌝ }
 {
     let n = magnitude(x);
-    if x < 0 {
-        let next = put_byte(out, at, b'-');
-        return put_natural(out, next, n);
-    }
-    put_natural(out, at, n)
+    let next = put_if(out, at, x < 0, b'-');
+    put_natural(out, next, n)
 }
