@@ -68,7 +68,8 @@ pub struct Log {
     pub messages: [MessageLine; MESSAGE_CAPACITY],
 }
 
-// The end of the first row and its fields, in one pass. The bytes that matter here all lie below the minus sign, and those of numbers do not.
+// The end of the first row and its fields, in one pass. The bytes that matter here all lie below the minus sign, and those of numbers do not. The comma is told
+// before the others, and these from what lies above the quote mark: of a choice among four single bytes a compiler makes a table.
 fn scan_row(s: &[u8]) -> Row
     ensures { λ r. ⌜ rowAs r ≡ scan 0 1 (now (s .entry)) ⌝ }
 {
@@ -79,23 +80,27 @@ fn scan_row(s: &[u8]) -> Row
         if b'-' <= b {
             i += 1;
         } else {
-            if b == b'\r' {
-                if s[i + 1] == b'\n' {
-                    return Row::Got(i, fields);
-                }
-                return Row::Refused(41);
-            }
-            if b == b'\n' {
-                return Row::Refused(41);
-            }
-            if b == b'"' {
-                return Row::Refused(41);
-            }
             if b == b',' {
                 fields += 1;
                 i += 1;
             } else {
-                i += 1;
+                if b'"' < b {
+                    i += 1;
+                } else {
+                    if b == b'\r' {
+                        if s[i + 1] == b'\n' {
+                            return Row::Got(i, fields);
+                        }
+                        return Row::Refused(41);
+                    }
+                    if b == b'\n' {
+                        return Row::Refused(41);
+                    }
+                    if b == b'"' {
+                        return Row::Refused(41);
+                    }
+                    i += 1;
+                }
             }
         }
     }
