@@ -4,7 +4,7 @@ use mathlib.Core.Bool.{cond}
 use mathlib.Core.List.{List, map}
 use lib.{Dec.eqb, ListN.length, ListN.take, ListN.replicate}
 use Rattle.model.specs.{Command.blank, Job.Job, Turns.letterL}
-use Rattle.model.specs.Data.{Entry, Absent, Field, Key, Open, Stop, Call, Receives, Sends, Level, Low, High, KeySlot, EntrySlot, MessageLine, StoredJob}
+use Rattle.model.specs.Data.{Entry, Absent, Field, Key, Open, Set, Call, Receives, Sends, Level, Low, High, KeySlot, EntrySlot, MessageLine, StoredJob}
 
 -- what the arrays hold: the constants of src/lib.rt
 abbrev pub keyCapacity : ℕ
@@ -91,13 +91,14 @@ absentField = record { low = Absent; high = Absent }
 abbrev pub blankLine : MessageLine
 blankLine = record { slots = replicate keyCapacity absentSlot }
 
+-- the command is the one that `Process.command` has beyond the last
 abbrev pub nothingStored : StoredJob
 nothingStored =
     record {
       keys = 0;
       secrets = replicate keyCapacity openSlot;
       «command_count» = 0;
-      commands = replicate commandCapacity (blank Stop);
+      commands = replicate commandCapacity (blank Set);
       «message_count» = 0;
       messages = replicate messageCapacity blankLine;
       «turn_count» = 0;

@@ -8,7 +8,7 @@ ghost use lib.ListN.{replicate};
 ghost use Rattle.model.specs.{Limits.variables, Command.blank, Step.begun as Execution·begun, Step.afterOf, Step.calledOf, Step.callsBy, Stored.keyCapacity};
 ghost use Rattle.model.specs.{Stored.commandCapacity, Stored.messageCapacity, Stored.openSlot, Stored.absentSlot, Stored.blankLine, Stored.nothingStored};
 ghost use Rattle.model.specs.Form.{formOne};
-ghost use Rattle.model.specs.declared.Op.the-variants.{Stop};
+ghost use Rattle.model.specs.declared.Op.the-variants.{Set};
 
 // The limits of every sheet.
 pub const MOST_BYTES: usize = 16384;
@@ -119,13 +119,13 @@ pub enum Op {
     Stop,
 }
 
-// A command: v and w are variables, k a key, t a target, n a number. An operand that the word lacks is 0.
+// A command: v and w are variables, k a key, t a target, n a number. An operand that the word lacks is 0. With a target of four bytes the fields leave no gap.
 pub struct Command {
     pub op: Op,
     pub v: u8,
     pub w: u8,
     pub k: u8,
-    pub t: u16,
+    pub t: u32,
     pub n: i32,
 }
 
@@ -316,11 +316,12 @@ impl StoredJob {
         [KeySlot { key: Key::Open }; KEY_CAPACITY]
     }
 
+    // The first word with no operands: all bytes are 0, so that the compiler clears the array at once.
     pub fn no_commands() -> [Command; COMMAND_CAPACITY]
-        ensures { λ r. ⌜ r ≡ replicate commandCapacity (blank Stop) ⌝ }
+        ensures { λ r. ⌜ r ≡ replicate commandCapacity (blank Set) ⌝ }
     {
         [Command {
-            op: Op::Stop,
+            op: Op::Set,
             v: 0,
             w: 0,
             k: 0,

@@ -103,7 +103,7 @@ pub fn unpack(x: u64) -> Command
         v: (to_v % V_ROOM) as u8,
         w: (to_w % V_ROOM) as u8,
         k: (to_k % K_ROOM) as u8,
-        t: (to_t % T_ROOM) as u16,
+        t: (to_t % T_ROOM) as u32,
         n: unshift(x % N_ROOM),
     }
 }

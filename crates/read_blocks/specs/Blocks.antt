@@ -177,6 +177,6 @@ ProgramRead K s out out′ (ProgramRefused n l) = readBlocks K s ≡ Dialect.ref
 
 -- ---- The commands that are made here
 
--- a target as a command can have it; one beyond that is 0, and stands in a program that is too long
+-- a target as a command's number has room for it; one beyond that is 0, and stands in a program that is too long
 unfoldable pub nearBy : ℕ → ℕ
 nearBy t = cond (ltb t 65536) t 0

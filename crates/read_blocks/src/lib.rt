@@ -150,12 +150,12 @@ fn variable_of(l: &[u8], e: usize) -> Natural
     one_part(&l[e + 1..], LAST_VARIABLE)
 }
 
-// A target as a command holds it. One that is too far stands in a program that is too long, whose commands are not used.
-fn near(t: usize) -> u16
+// A target as a command's number has room for it. One that is too far stands in a program that is too long, whose commands are not used.
+fn near(t: usize) -> u32
     ensures { λ r. ⌜ r ≡ nearBy t ⌝ }
 {
     if t < 65536 {
-        return t as u16;
+        return t as u32;
     }
     0
 }

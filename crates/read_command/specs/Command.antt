@@ -18,7 +18,7 @@ use Rattle.read_command.specs.declared.Two.the-variants.{Got as TwoGot, 
 pub record Fair (keys target : ℕ) : Type 0 where
   pub some : 1 ≤ keys
   pub few : keys ≤ 256
-  pub near : target ≤ 65535
+  pub near : target ≤ 4294967295
 
 abbrev pub lineAs : Line → Parsed Command
 lineAs (Got c) = got c
@@ -94,4 +94,4 @@ pub record Fields (v w k t : ℕ) : Type 0 where
   pub v-fits : v ≤ 255
   pub w-fits : w ≤ 255
   pub k-fits : k ≤ 255
-  pub t-fits : t ≤ 65535
+  pub t-fits : t ≤ 4294967295

@@ -129,7 +129,7 @@ fn command_of(op: Op, v: u64, w: u64, k: u64, t: u64) -> Command
         v: v as u8,
         w: w as u8,
         k: k as u8,
-        t: t as u16,
+        t: t as u32,
         n: 0,
     }
 }

@@ -23,7 +23,7 @@ pub fn index(x: u8) -> usize
     x as usize
 }
 
-fn target(x: u16) -> usize
+fn target(x: u32) -> usize
     ensures { λ r. ⌜ r ≡ x ⌝ }
 {
     x as usize

@@ -1,15 +1,14 @@
 -- A word against its row of the table; a command's text as a word and what follows it.
 use mathlib.Core.Path.{_≡_, refl, sym, ap, _∙_, subst}
-use mathlib.Core.List.{List, [], _∷_, _++_, append-nil}
+use mathlib.Core.List.{List, [], _∷_, _++_, append-nil, append-assoc}
 use Prim.Native.Nat.{ℕ, _+_, _<_, _≤_}
 use lib.{ListN.length, ListN.getD, ListN.take, ListN.drop, Seq.getD-take, Seq.length-take-le}
 use Rattle.model.specs.{Text.space, Text.bytes, Text.lineFeed, Command.blank, Accepted.rowFor}
 use Rattle.model.specs.declared.{Command.Command, Op.Op, Op.the-variants.Set, Operand.Operand}
 use Rattle.model_text.specs.Text.{prefixed, unlines, named, operandText, operandTexts, commandText, commandLine, commandLines}
 use Rattle.model_text.proofs.Texts.{joined-prefixed, unlines-more, unlines-end}
-use Rattle.write_commands.specs.Commands.{operandsAs, Worded}
-use Rattle.write_commands.specs.declared.{Wording.Wording, Operands.Operands}
-use Rattle.write_commands.specs.declared.Operands.the-variants.{None, One, Two}
+use Rattle.write_commands.specs.Commands.{operandsAs, following, Worded}
+use Rattle.write_commands.specs.declared.Wording.{Wording}
 
 -- an op that is found to be p
 pub worded : {w : Wording} {o p : Op} → o ≡ p → take (w .1) (w .0) ≡ rowFor p .word → operandsAs (w .2) ≡ rowFor p .parts → w .1 ≤ length (w .0) → Worded w o
@@ -31,21 +30,16 @@ command-parts c = refl
 
 -- ---- What follows a word
 
-module _ (c : Command) where
-  abbrev following : Operands → List ℕ
-  following os = prefixed space (operandTexts (operandsAs os) c)
+pub following-join : (os ps : List Operand) (c : Command) → following (os ++ ps) c ≡ following os c ++ following ps c
+unfolding prefixed
+following-join [] ps c = refl
+following-join (o ∷ os) ps c =
+    ap (λ (t : List ℕ). space ∷ (operandText o c ++ t)) (following-join os ps c)
+    ∙ ap (λ (t : List ℕ). space ∷ t) (sym (append-assoc (operandText o c) (following os c) (following ps c)))
 
-  pub texts-none : {os : Operands} → os ≡ None → following os ≡ []
-  unfolding prefixed
-  texts-none e = rw e
-
-  pub texts-one : {os : Operands} {o : Operand} → os ≡ One o → following os ≡ space ∷ operandText o c
-  unfolding prefixed
-  texts-one {o = o} e = rw (e, append-nil (operandText o c))
-
-  pub texts-two : {os : Operands} {o p : Operand} → os ≡ Two o p → following os ≡ (space ∷ operandText o c) ++ (space ∷ operandText p c)
-  unfolding prefixed
-  texts-two {p = p} e = rw (e, append-nil (operandText p c))
+pub following-one : (o : Operand) (c : Command) → following (o ∷ []) c ≡ space ∷ operandText o c
+unfolding prefixed
+following-one o c = ap (λ (t : List ℕ). space ∷ t) (append-nil (operandText o c))
 
 -- ---- Lines, of the first count commands that an array holds
 

@@ -3,17 +3,18 @@ use model::COMMAND_CAPACITY;
 use model::Command;
 use model::Op;
 use model::Operand;
+use write_text::magnitude;
 use write_text::put_byte;
-use write_text::put_whole;
+use write_text::put_signed;
 use write_text::put_word;
 ghost use mathlib.Core.Path.{_≡_};
-ghost use mathlib.Core.List.{[], _∷_};
+ghost use mathlib.Core.List.{[], _∷_, _++_};
 ghost use Prim.Native.Nat.{_≤_};
 ghost use lib.ListN.{take};
-ghost use Rattle.model.specs.{Text.space, Decimal.whole, Stored.commandCapacity};
-ghost use Rattle.model_text.specs.Text.{prefixed, operandText, operandTexts, commandText, commandLines};
-ghost use Rattle.write_text.specs.Put.{Put, Room};
-ghost use Rattle.write_commands.specs.Commands.{Worded, operandsAs};
+ghost use Rattle.model.specs.{Text.space, Decimal.natural, Stored.commandCapacity};
+ghost use Rattle.model_text.specs.Text.{operandText, commandText, commandLines};
+ghost use Rattle.write_text.specs.Put.{Put, Room, signed};
+ghost use Rattle.write_commands.specs.Commands.{Worded, operandsAs, partAs, following};
 
 // The operands that follow a word.
 enum Operands {
@@ -47,17 +48,34 @@ fn wording_of(op: Op) -> Wording
     }
 }
 
-// An operand of a command as a number of the full range, which has them all.
-fn value_of(c: Command, o: Operand) -> i32
-    ensures { λ r. ⌜ whole r ≡ operandText o c ⌝ }
+// An operand's number by its sign and its size.
+struct Value {
+    pub minus: bool,
+    pub size: u32,
+}
+
+fn value_of(c: Command, o: Operand) -> Value
+    ensures { λ r. ⌜ signed (r .minus) (r .size) ≡ operandText o c ⌝ }
 {
     match o {
-        Operand::InV => c.v as i32,
-        Operand::InW => c.w as i32,
-        Operand::InK => c.k as i32,
-        Operand::InT => c.t as i32,
-        Operand::InN => c.n,
+        Operand::InV => unsigned(c.v as u32),
+        Operand::InW => unsigned(c.w as u32),
+        Operand::InK => unsigned(c.k as u32),
+        Operand::InT => unsigned(c.t),
+        Operand::InN => {
+            let n = c.n;
+            Value {
+                minus: n < 0,
+                size: magnitude(n),
+            }
+        }
     }
+}
+
+fn unsigned(size: u32) -> Value
+    ensures { λ r. ⌜ signed (r .minus) (r .size) ≡ natural size ⌝ }
+{
+    Value { minus: false, size }
 }
 
 // An operand behind its space.
@@ -67,21 +85,47 @@ fn put_operand(out: &mut [u8], at: usize, c: Command, o: Operand) -> usize
 {
     let x = value_of(c, o);
     let value = put_byte(out, at, b' ');
-    put_whole(out, value, x)
+    put_signed(out, value, x.minus, x.size)
+}
+
+// An operand, or none.
+enum Part {
+    None,
+    Of(Operand),
+}
+
+// Operands as two parts, of which the first or both may be none: so what puts an operand stands in the code twice and not three times.
+struct Parts(Part, Part);
+
+fn parts_of(os: Operands) -> Parts
+    ensures { λ r. ⌜ partAs (r .0) ++ partAs (r .1) ≡ operandsAs os ⌝ }
+{
+    match os {
+        Operands::None => Parts(Part::None, Part::None),
+        Operands::One(o) => Parts(Part::None, Part::Of(o)),
+        Operands::Two(o, p) => Parts(Part::Of(o), Part::Of(p)),
+    }
+}
+
+fn put_part(out: &mut [u8], at: usize, c: Command, p: Part) -> usize
+    requires { ⌜ Room (now out) at (following (partAs p) c) ⌝ }
+    ensures { λ r. ⌜ Put (now (out .entry)) at (following (partAs p) c) (now (out .exit)) r ⌝ }
+{
+    match p {
+        Part::None => at,
+        Part::Of(o) => put_operand(out, at, c, o),
+    }
 }
 
 fn put_operands(out: &mut [u8], at: usize, c: Command, os: Operands) -> usize
-    requires { ⌜ Room (now out) at (prefixed space (operandTexts (operandsAs os) c)) ⌝ }
-    ensures { λ r. ⌜ Put (now (out .entry)) at (prefixed space (operandTexts (operandsAs os) c)) (now (out .exit)) r ⌝ }
+    requires { ⌜ Room (now out) at (following (operandsAs os) c) ⌝ }
+    ensures { λ r. ⌜ Put (now (out .entry)) at (following (operandsAs os) c) (now (out .exit)) r ⌝ }
 {
-    match os {
-        Operands::None => at,
-        Operands::One(o) => put_operand(out, at, c, o),
-        Operands::Two(o, p) => {
-            let next = put_operand(out, at, c, o);
-            put_operand(out, next, c, p)
-        }
-    }
+    let parts = parts_of(os);
+    let first = parts.0;
+    let last = parts.1;
+    let next = put_part(out, at, c, first);
+    put_part(out, next, c, last)
 }
 
 // What follows `do=`.

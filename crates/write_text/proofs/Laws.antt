@@ -1,17 +1,16 @@
 -- A text in two parts is put part by part; the digits of a number are as many as its width.
 use mathlib.Core.Path.{_≡_, refl, sym, ap, ap₂, _∙_}
 use mathlib.Core.Logic.{_⊎_, inl, inr, ⊎-elim}
-use mathlib.Core.Bool.{true, false, true≢false}
 use mathlib.Core.List.{List, [], _∷_, _++_}
 use Prim.Native.Nat.{ℕ, zero, suc, _+_, _*_, _/_, _<_, _≤_}
 use native.Mathlib.{Omega.arith, Decide.decLt, Numerals.add-one}
 use lib.{ListN.length, ListN.getD, ListN.drop, ListN.set, ListN.length-append, ListN.drop-of-length-le, Seq.set-out, Seq.drop-cons, IntN.ℤ, IntN.pos, IntN.negsuc}
 use lib.{IntN.natAbs, Signed.ltZ}
-use borrow.Author.Tests.{ltb-true, lt-ltb, le-ltb}
-use Rattle.model.specs.{Text.minus, Placed.placed, Decimal.widthTo, Decimal.width, Decimal.mostDigits, Decimal.natural, Decimal.whole, Written.text, Written.written}
+use borrow.Author.Tests.{lt-ltb, le-ltb}
+use Rattle.model.specs.{Placed.placed, Decimal.widthTo, Decimal.width, Decimal.mostDigits, Decimal.natural, Decimal.whole, Written.text, Written.written}
 use Rattle.model.specs.Written.{write}
 use Rattle.model.proofs.{Placed.placed-nil, Placed.placed-append, Placed.placed-length, Placed.placed-front, Decimal.tens, Decimal.tens-last, Decimal.tens-most, Line.digits-length, Written.write-fits}
-use Rattle.write_text.specs.Put.{Put, Room, byteIf}
+use Rattle.write_text.specs.Put.{Put, Room, signed}
 
 -- a text, and another behind it
 pub put-then : {d d′ d″ s t : List ℕ} {at p q : ℕ} → Put d at s d′ p → Put d′ p t d″ q → Put d at (s ++ t) d″ q
@@ -142,7 +141,7 @@ unfolding natural
 natural-length n = digits-length (width n) n
 
 -- a number of the full range, by the sign that the machine finds
-pub whole-is : (z : ℤ) → whole z ≡ byteIf (ltZ z (pos 0)) minus ++ natural (natAbs z)
+pub whole-is : (z : ℤ) → whole z ≡ signed (ltZ z (pos 0)) (natAbs z)
 unfolding whole
 whole-is (pos n) = rw (le-ltb n 0 (omega arith))
 whole-is (negsuc n) = refl

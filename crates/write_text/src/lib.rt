@@ -7,7 +7,7 @@ ghost use mathlib.Core.List.{[], _∷_};
 ghost use Prim.Native.Nat.{_+_, _≤_};
 ghost use lib.{ListN.length, IntN.natAbs};
 ghost use Rattle.model.specs.{Placed.placed, Decimal.digits, Decimal.width, Decimal.natural, Decimal.whole};
-ghost use Rattle.write_text.specs.Put.{Put, Room, byteIf};
+ghost use Rattle.write_text.specs.Put.{Put, Room, byteIf, signed};
 
 pub fn magnitude(x: i32) -> u32
     ensures { λ r. ⌜ r ≡ natAbs x ⌝ }
@@ -90,12 +90,20 @@ pub fn put_natural(out: &mut [u8], at: usize, n: u32) -> usize
     next
 }
 
+// A number by its sign and its size.
+pub fn put_signed(out: &mut [u8], at: usize, minus: bool, size: u32) -> usize
+    requires { ⌜ Room (now out) at (signed minus size) ⌝ }
+    ensures { λ r. ⌜ Put (now (out .entry)) at (signed minus size) (now (out .exit)) r ⌝ }
+{
+    let next = put_if(out, at, minus, b'-');
+    put_natural(out, next, size)
+}
+
 // A number of the full range: a minus sign before a negative one, and no plus sign.
 pub fn put_whole(out: &mut [u8], at: usize, x: i32) -> usize
     requires { ⌜ Room (now out) at (whole x) ⌝ }
     ensures { λ r. ⌜ Put (now (out .entry)) at (whole x) (now (out .exit)) r ⌝ }
 {
-    let n = magnitude(x);
-    let next = put_if(out, at, x < 0, b'-');
-    put_natural(out, next, n)
+    let size = magnitude(x);
+    put_signed(out, at, x < 0, size)
 }

@@ -4,7 +4,7 @@ use mathlib.Core.Path.{_≡_, ap, _∙_}
 use native.Mathlib.Omega.{arith}
 use borrow.Author.Needs.{needs}
 use lib.ListN.{length, length-replicate}
-use Rattle.model.specs.{Stored.commandCapacity, Command.blank, declared.Op.the-variants.Stop}
+use Rattle.model.specs.{Stored.commandCapacity, Command.blank, declared.Op.the-variants.Set}
 use Rattle.pack_command.specs.Pack.{Unpacked}
 use Rattle.pack_command.proofs.Laws.{unpacked-none, unpacked-more, unpacked-all}
 use Rattle.pack_command.proofs.unpack_all.Statement.{statement}
@@ -33,7 +33,7 @@ unpack-all-spec =
     Inv-loop
     μ-loop
     (λ c κs. search needs)
-    (λ c. (unpacked-none _ _ (omega (arith, enough (c .before), c .before .pre)) _ (ap length (c .no-commands .ensures) ∙ length-replicate commandCapacity (blank Stop)), omega arith, omega (arith, enough (c .before), c .before .pre)))
+    (λ c. (unpacked-none _ _ (omega (arith, enough (c .before), c .before .pre)) _ (ap length (c .no-commands .ensures) ∙ length-replicate commandCapacity (blank Set)), omega arith, omega (arith, enough (c .before), c .before .pre)))
     (λ c. omega (arith, c .loop-test .taken, c .before .before .before .pre))
     (λ c. omega (arith, c .loop-test .taken, c .before .loop .inv .2))
     (λ c κs. search needs)

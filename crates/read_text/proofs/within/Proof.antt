@@ -1,5 +1,4 @@
 -- The two tests of the definition, one after the other.
-use mathlib.Core.Path.{sym}
 use borrow.Author.Tests.{lt-leb, le-leb}
 use Rattle.read_text.proofs.within.Statement.{statement}
 use Rattle.read_text.proofs.within.Tie as tie

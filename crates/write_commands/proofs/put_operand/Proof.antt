@@ -1,10 +1,8 @@
 -- A space, and the operand as a number.
-use mathlib.Core.Path.{_≡_, ap, _∙_}
 use mathlib.Core.List.{List, [], _∷_}
 use Prim.Native.Nat.{ℕ}
 use borrow.Author.Needs.{needs}
-use mir.{Syntax.w32, Val.toZ, Val.ofZ, Facts.toZ-ofZ}
-use Rattle.model.specs.{Text.space, Decimal.whole}
+use Rattle.model.specs.Text.{space}
 use Rattle.model_text.specs.Text.{operandText}
 use Rattle.write_text.proofs.Laws.{put-then, room-first, room-next}
 use Rattle.write_commands.proofs.put_operand.Statement.{statement}
@@ -16,10 +14,6 @@ startOf c = c .before .before
 abbrev value : tie.After-value-of → List ℕ
 value c = operandText (startOf c .args .o) (startOf c .args .c)
 
--- the number that is written, read from its bits
-text : (c : tie.After-value-of) → whole (toZ w32 (ofZ w32 (c .value-of .result))) ≡ value c
-text c = ap whole (toZ-ofZ {w = w32} (record { sfits = c .value-of .ok })) ∙ c .value-of .ensures
-
 pub put-operand-spec : {M : Type 1} → statement M
 put-operand-spec =
     tie.close
@@ -29,10 +23,10 @@ put-operand-spec =
     (λ c κs.
     let b = c .before .before .before in
     let v = b .before .before in
-    rw (text v) (room-next (space ∷ []) (value v) (startOf v .pre) (b .put-byte .ensures)))
+    rw (v .value-of .ensures) (room-next (space ∷ []) (value v) (startOf v .pre) (b .put-byte .ensures)))
     (λ c. search needs)
     (λ c.
     let w = c .before .before in
     let b = w .before .before .before .before in
     let v = b .before .before in
-    put-then (b .put-byte .ensures) (rw (text v) at (w .put-whole .ensures))))
+    put-then (b .put-byte .ensures) (rw (v .value-of .ensures) at (w .put-signed .ensures))))
