@@ -1,6 +1,8 @@
 /*
  * The confidential run of one sheet: two executions, one message; the msg lines of a sheet out of the
- * export of a belt log; and its do lines out of a program with blocks. Link with libpavebox.a.
+ * export of a belt log; and its do lines out of a program with blocks. Link with libpavebox.a. Where
+ * read-only memory is short, link with -Wl,--gc-sections: then only what the called entries need is
+ * kept.
  */
 #ifndef PAVEBOX_H
 #define PAVEBOX_H

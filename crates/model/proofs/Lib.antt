@@ -21,3 +21,4 @@ pub mod Written
 pub mod Plain
 pub mod Honest
 pub mod HonestExamples
+pub mod Classes

@@ -1,5 +1,5 @@
 -- Document 01 as definitions, in its order, with the rule of document 02's Note 2 in the turn and Note 3's number in the answer, and what document 02 shares
--- with it; then what is claimed of them, and of the plain run of Note 4.
+-- with it; then what is claimed of them, of the plain run of Note 4, and of the class that Note 6 keeps.
 pub mod Data
 pub mod Limits
 pub mod Parsed
@@ -38,3 +38,4 @@ pub mod Clamped
 pub mod Plain
 pub mod Honest
 pub mod HonestExamples
+pub mod Classes

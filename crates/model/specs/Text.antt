@@ -54,7 +54,8 @@ abbrev pub forbiddenClass : ℕ
 forbiddenClass = 10
 
 -- "The class of a byte (digit, minus, comma, colon, equals sign, space, line feed, small letter, capital letter, other byte from 32 to 126,
--- forbidden byte) is looked up in a table of 256 entries": the classes are numbered from 0 in that order.
+-- forbidden byte)": the classes are numbered from 0 in that order. Document 01 has it "looked up in a table of 256 entries"; document 02, Note 6: "Replace it
+-- by tests on ranges of the byte. The contract of the class is the same."
 unfoldable pub classOf : ℕ → ℕ
 classOf b =
     cond (between zeroDigit nineDigit b) digitClass

@@ -3,7 +3,7 @@ use model::GREATEST_NUMBER;
 use model::LEAST_NUMBER;
 ghost use mathlib.Core.Path.{_≡_};
 ghost use mathlib.Core.Bool.{_&&_, not};
-ghost use Prim.Native.Nat.{_+_, _<_, _≤_};
+ghost use Prim.Native.Nat.{_<_, min};
 ghost use lib.{Dec.leb, ListN.length};
 ghost use Rattle.model.specs.{Text.between, Text.classOf, Text.find, Number.digitsTo, Number.upTo, Number.fromOne, Number.negative, Number.positive, Number.number};
 ghost use Rattle.model.specs.Sheet.{closed};
@@ -125,15 +125,13 @@ fn has_forbidden(s: &[u8]) -> bool
     found
 }
 
-// Where the next bytes to test start, if i of n bytes are tested: the last ones of all are tested together, even if some of them were before.
-fn next_start(i: usize, n: usize) -> usize
-    requires { ⌜ (i < n) × (16 ≤ n) ⌝ }
-    ensures { λ r. ⌜ (r ≤ i) × (i < r + 16) × (r + 16 ≤ n) ⌝ }
+fn lesser(a: usize, b: usize) -> usize
+    ensures { λ r. ⌜ r ≡ min a b ⌝ }
 {
-    if n - i < AT_ONCE { n - AT_ONCE } else { i }
+    if b < a { b } else { a }
 }
 
-// Whether there are bytes enough to test them so many at once, and none is forbidden.
+// Whether there are bytes enough to test so many at once, and none is forbidden. The last ones are tested together too, even if some of them were before.
 fn all_allowed(s: &[u8]) -> bool
     ensures { λ r. ⌜ r ≡ leb 16 (length (now (s .entry))) && not (forbids (now (s .entry))) ⌝ }
 {
@@ -143,7 +141,7 @@ fn all_allowed(s: &[u8]) -> bool
     }
     let mut i = 0;
     while i < n {
-        let a = next_start(i, n);
+        let a = lesser(i, n - AT_ONCE);
         if has_forbidden(&s[a..a + AT_ONCE]) {
             return false;
         }

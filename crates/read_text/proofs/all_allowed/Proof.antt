@@ -1,5 +1,5 @@
 -- The bytes before a place have no forbidden one: if those that are left have none, the text has none.
-use Prim.Native.Nat.{ℕ, _≤_, _+_, _-_}
+use Prim.Native.Nat.{ℕ, _≤_, _<_, _+_, _-_}
 use mathlib.Core.Bool.{false}
 use mathlib.Core.Path.{_≡_, sym, ap, _∙_}
 use native.Mathlib.Omega.{arith}
@@ -17,22 +17,32 @@ Inv-loop s n i₀ i = (i ≤ length s) × (forbids (drop i s) ≡ false → forb
 abbrev μ-loop : tie.MeasureT-loop
 μ-loop s n i₀ i = length s - i
 
+-- the bytes that are tested: they start no later than the ones that are left, and end within the text
+part : (c : tie.After-lesser Inv-loop μ-loop) → (c .lesser .result ≤ c .before .before .loop .i) × (c .lesser .result + 16 ≤ length (c .before .before .before .before .before .args .s .now))
+part c = (omega (arith, c .lesser .ensures), omega (arith, c .lesser .ensures))
+
+-- and go further than those that were tested
+further : (c : tie.After-lesser Inv-loop μ-loop) → c .before .before .loop .i < c .lesser .result + 16
+further c = omega (arith, c .lesser .ensures)
+
 returns-2 : tie.Need-returns-2 Inv-loop μ-loop
 returns-2 c =
-    let s = c .before .before .before .before .before .before .before .before .args .s .now in
-    let a = c .before .before .before .next-start .result in
+    let p = c .before .before .before in
+    let s = p .before .before .before .before .before .args .s .now in
+    let a = p .lesser .result in
     let e = part-forbids (a + 16 - a) a s (sym (c .before .has-forbidden .ensures) ∙ c .if2 .taken) in
-    rw (le-leb 16 (length s) (c .before .before .before .before .before .before .if1 .left), e)
+    rw (le-leb 16 (length s) (p .before .before .before .if1 .left), e)
 
 loop-again : tie.Need-loop-again Inv-loop μ-loop
 loop-again c =
-    let n = c .before .before .before in
-    let l = n .before .before .loop in
-    let s = n .before .before .before .before .before .args .s .now in
-    let a = n .next-start .result in
+    let p = c .before .before .before in
+    let l = p .before .before .loop in
+    let s = p .before .before .before .before .before .args .s .now in
+    let a = p .lesser .result in
+    let h = part p in
     let q : a + 16 - a ≡ 16 = omega arith in
     let e = ap (λ (m : ℕ). forbids (take m (drop a s))) (sym q) ∙ sym (c .before .has-forbidden .ensures) ∙ c .if2 .left in
-    (omega (arith, n .next-start .ensures), λ f. l .inv .1 (part-allowed 16 a (l .i) s (n .next-start .ensures .0) e f))
+    (omega (arith, h .1), λ f. l .inv .1 (part-allowed 16 a (l .i) s (h .0) e f))
 
 pub all-allowed-spec : {M : Type 1} → statement M
 all-allowed-spec =
@@ -43,10 +53,10 @@ all-allowed-spec =
     (λ c. rw (lt-leb 16 _ (c .if1 .taken)))
     (λ c. (omega arith, λ e. e))
     (λ c κs. search needs)
-    (λ c. omega (arith, c .next-start .ensures)) (λ c. omega (arith, c .next-start .ensures)) (λ c. omega (arith, c .next-start .ensures)) (λ c. omega (arith, c .next-start .ensures))
+    (λ c. omega (arith, part c .1)) (λ c. omega (arith, part c .1)) (λ c. omega (arith, part c .1)) (λ c. omega (arith, part c .1))
     (λ c κs. search needs)
     returns-2
-    (λ c. omega (arith, c .before .before .before .next-start .ensures))
-    (λ c. omega (arith, c .before .before .before .next-start .ensures))
+    (λ c. omega (arith, part (c .before .before .before) .1))
+    (λ c. let p = c .before .before .before in omega (arith, part p .1, further p))
     loop-again
     (λ c. let l = c .before .loop in rw (le-leb 16 _ (c .before .before .if1 .left), l .inv .1 (forbids-end _ _ (c .loop-test .left)))))
