@@ -190,6 +190,25 @@ void check_nulls(const struct entry *entry, const char *input, struct wanted emp
     free(answer);
 }
 
+void check_bytes(const struct entry *entry)
+{
+    uint8_t text[70];
+    size_t length;
+    for (length = 1; length <= sizeof text; length++) {
+        char name[32];
+        snprintf(name, sizeof name, "2, %lu bytes", (unsigned long)length);
+        memset(text, 'x', length);
+        check_call(entry, name, text, length, 0, REFUSED(2, 1));
+        memset(text, '\n', length);
+        text[length - 1] = 'x';
+        check_call(entry, name, text, length, 0, REFUSED(2, (uint32_t)length));
+        text[length - 1] = 127;
+        check_call(entry, name, text, length, 0, REFUSED(2, (uint32_t)length));
+        text[length / 2] = 31;
+        check_call(entry, name, text, length, 0, REFUSED(2, (uint32_t)(length / 2) + 1));
+    }
+}
+
 int main(void)
 {
     check_run();

@@ -73,6 +73,10 @@ void check_short_answer(const struct entry *entry, const char *input, size_t len
 void check_nulls(const struct entry *entry, const char *input, struct wanted empty,
                  struct wanted no_room);
 
+/* Refusal 2 of texts of every length up to 70 bytes, which a scan that looks at several bytes in one
+ * step must look through to the last byte, and no further. */
+void check_bytes(const struct entry *entry);
+
 /* The checks of each entry. */
 void check_run(void);
 void check_csv(void);

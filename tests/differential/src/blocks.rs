@@ -3,7 +3,7 @@
 //! dialect's own meaning: step by step by a plain run, and by the archive's own run of that sheet.
 
 use crate::compare::{Difference, Entry, Left};
-use crate::part::{Corner, Part};
+use crate::part::{Corner, Part, Texts};
 use crate::tally::{Tally, Telling, Wanted};
 use pavebox::{BlocksAnswer, BLOCKS_ANSWER_BYTES, WRITTEN};
 use reference::block_run::{alone, difference, tree, Body, Part as Piece};
@@ -26,6 +26,7 @@ pub static BLOCKS: Part = Part {
     wrong_lengths: &[0, 1, 4, 8, 11, 13, 16, 24, 28, 48, 268],
     memory_length: |rng, text, keys| memory_length(rng, &program(text, keys)),
     corners,
+    texts,
     text: lines_and_answer,
     random,
     // Every number of Note 5.
@@ -133,6 +134,15 @@ fn corners() -> Vec<Corner> {
         text: [corner.lines, answer_line(corner.numbers)].concat(),
     };
     corners.into_iter().map(corner).collect()
+}
+
+/// The lines of a program that gives some have room in the memory.
+fn texts() -> Texts {
+    Texts {
+        lent: 150,
+        keys: Some(2),
+        inputs: reference::corners::bytes::programs(),
+    }
 }
 
 fn program(text: &[u8], keys: Option<u32>) -> Program {

@@ -1,7 +1,7 @@
 //! The entry that makes `msg` lines out of the export of a belt log.
 
 use crate::compare::{Difference, Entry, Left};
-use crate::part::{Corner, Part};
+use crate::part::{Corner, Part, Texts};
 use crate::tally::{Tally, Telling, Wanted};
 use pavebox::{CsvAnswer, CSV_ANSWER_BYTES, WRITTEN};
 use reference::generate::log::{accepted, damaged, memory_length, noise};
@@ -19,6 +19,7 @@ pub static LOGS: Part = Part {
     wrong_lengths: &[0, 1, 4, 8, 11, 13, 16, 24, 28, 48, 268],
     memory_length: |rng, export, _| memory_length(rng, export),
     corners,
+    texts,
     text: lines_and_answer,
     random,
     // Every number of Note 1.
@@ -44,6 +45,15 @@ fn corners() -> Vec<Corner> {
         text: [corner.lines, answer_line(corner.numbers)].concat(),
     };
     corners.into_iter().map(corner).collect()
+}
+
+/// The lines of an export that gives some have room in the memory.
+fn texts() -> Texts {
+    Texts {
+        lent: 60,
+        keys: None,
+        inputs: reference::corners::bytes::exports(),
+    }
 }
 
 /// The three numbers, if the answer memory has them.

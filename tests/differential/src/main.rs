@@ -2,11 +2,11 @@
 //!
 //! PART is `sheets`, which are run, `honest`, sheets whose runs are held to plain runs too, `logs`,
 //! exports whose lines are made, or `blocks`, programs with blocks whose lines are made and held to what
-//! such programs do; without it, each of them in turn. First come the hand-written corners, then COUNT
-//! random cases (20,000 by default). SEED is taken from the clock by default, and
-//! is always printed. Of each call every byte of the three memories is compared, and the bytes around
-//! them. Exit status 1: a difference, or random cases that show too little, as fewer than some
-//! thousand may.
+//! such programs do; without it, each of them in turn. First come the hand-written corners, then texts
+//! with every byte and with faults at every place, then COUNT random cases (20,000 by default). SEED is
+//! taken from the clock by default, and is always printed. Of each call every byte of the three memories
+//! is compared, and the bytes around them. Exit status 1: a difference, or random cases that show too
+//! little, as fewer than some thousand may.
 
 mod blocks;
 mod compare;

@@ -16,6 +16,8 @@ pub struct Part {
     /// A length for the output memory.
     pub memory_length: fn(&mut Rng, &[u8], Option<u32>) -> usize,
     pub corners: fn() -> Vec<Corner>,
+    /// The texts of Note 6.
+    pub texts: fn() -> Texts,
     /// What a call has left, as the text of a corner has it.
     pub text: fn(&Left) -> Vec<u8>,
     /// Compares one random case; its place among them is given.
@@ -32,14 +34,25 @@ pub struct Corner {
     pub text: Vec<u8>,
 }
 
+/// Inputs without an answer beside them: what each gets, the model says.
+#[derive(Default)]
+pub struct Texts {
+    /// The bytes lent to each.
+    pub lent: usize,
+    /// The K that is given with each, if the entry is given one.
+    pub keys: Option<u32>,
+    pub inputs: Vec<Vec<u8>>,
+}
+
 impl Part {
-    /// Every corner, and then so many random cases.
+    /// Every corner, every text, and then so many random cases.
     pub fn run(&'static self, count: u64, seed: u64) -> Result<Tally, Difference> {
         let mut rng = Rng::new(seed);
         let mut tally = Tally::new(&self.wanted);
         for corner in (self.corners)() {
             self.run_corner(&mut rng, &corner, &mut tally)?;
         }
+        self.run_texts(seed, &mut tally)?;
         for place in 0..count {
             if place > 0 && place % PROGRESS == 0 {
                 println!("{place} cases");
@@ -72,6 +85,19 @@ impl Part {
             let case = self.case(rng, &corner.input, corner.lent, length);
             let case = case.with_keys(corner.keys);
             tally.count_corner(compare(&case)?.returned);
+        }
+        Ok(())
+    }
+
+    /// Each text once. Their random numbers are their own: the random cases of a seed are the same, however
+    /// many texts there are.
+    fn run_texts(&'static self, seed: u64, tally: &mut Tally) -> Result<(), Difference> {
+        let mut rng = Rng::new(seed);
+        let texts = (self.texts)();
+        for input in &texts.inputs {
+            let case = self.case(&mut rng, input, texts.lent, self.answer_bytes);
+            let left = compare(&case.with_keys(texts.keys))?;
+            tally.count_corner(left.returned);
         }
         Ok(())
     }

@@ -3,7 +3,7 @@
 
 use crate::compare::{Difference, Entry, Left};
 use crate::pairs::compare_pair;
-use crate::part::{Corner, Part};
+use crate::part::{Corner, Part, Texts};
 use crate::tally::{Tally, Telling, Wanted};
 use pavebox::{Answer, ANSWER_BYTES};
 use reference::generate::{accepted, damaged, memory_length, noise, secret_pair, Rng, Shape};
@@ -17,6 +17,7 @@ pub static SHEETS: Part = Part {
     wrong_lengths: WRONG_LENGTHS,
     memory_length: |rng, sheet, _| memory_length(rng, sheet),
     corners,
+    texts,
     text: printed,
     random,
     // Every first number of document 01.
@@ -111,6 +112,15 @@ pub fn corner(corner: reference::corners::Corner) -> Corner {
         keys: None,
         input: corner.sheet,
         text: corner.printed,
+    }
+}
+
+/// A line of two keys, if one is sent, has room in the memory.
+fn texts() -> Texts {
+    Texts {
+        lent: 40,
+        keys: None,
+        inputs: reference::corners::bytes::sheets(),
     }
 }
 

@@ -44,7 +44,7 @@ impl Tally {
         }
     }
 
-    /// A call on a hand-written corner, whatever the lengths of its memories.
+    /// A call on a corner or a text, whatever the lengths of its memories.
     pub fn count_corner(&mut self, returned: u32) {
         *self.corners.entry(returned).or_default() += 1;
     }

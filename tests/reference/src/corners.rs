@@ -3,6 +3,7 @@
 //! documents.
 
 pub mod blocks;
+pub mod bytes;
 pub mod calls;
 pub mod clamps;
 pub mod honest;

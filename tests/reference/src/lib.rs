@@ -17,7 +17,7 @@
 //! - [`corners`] lists hand-written sheets with the text that the documents demand for each, those
 //!   of Note 2 in [`corners::calls`], those of Note 3 in [`corners::clamps`], those of Note 4 in
 //!   [`corners::honest`]; [`corners::log`] has exports with their lines, [`corners::blocks`] programs
-//!   with blocks and theirs.
+//!   with blocks and theirs. [`corners::bytes`] makes texts of all three kinds for Note 6.
 
 pub mod block_run;
 pub mod blocks;

@@ -1,5 +1,6 @@
 //! The reference model of document 01, in the order of its text, with the rule of document 02's
-//! Note 2 for the calls of the high execution and the seventh number of its Note 3.
+//! Note 2 for the calls of the high execution, the seventh number of its Note 3, and the classes of
+//! bytes without a table, as its Note 6 has them.
 //!
 //! Words between quotation marks are the documents' own. A comment that begins with "Reading:"
 //! names the reading taken where the text leaves a choice, or seems to leave one.
@@ -122,7 +123,7 @@ pub struct Refusal {
     pub line: u32,
 }
 
-/// "The class of a byte".
+/// "The class of a byte". Its number is its place in document 01's list, from 0.
 #[derive(Debug, Clone, Copy, PartialEq, Eq)]
 pub enum Class {
     Digit,
@@ -138,35 +139,24 @@ pub enum Class {
     Forbidden,
 }
 
-/// "is looked up in a table of 256 entries".
-pub const CLASSES: [Class; 256] = class_table();
-
+/// Document 01 has it "looked up in a table of 256 entries". Note 6: "Replace it by tests on ranges of the
+/// byte. The contract of the class is the same."
 // The first arm that fits decides, so `Other` is what the arms above it leave.
 #[allow(clippy::match_overlapping_arm)]
-const fn class_table() -> [Class; 256] {
-    let mut table = [Class::Forbidden; 256];
-    let mut byte = 0;
-    while byte < 256 {
-        table[byte] = match byte as u8 {
-            b'0'..=b'9' => Class::Digit,
-            b'-' => Class::Minus,
-            b',' => Class::Comma,
-            b':' => Class::Colon,
-            b'=' => Class::Equals,
-            b' ' => Class::Space,
-            LINE_FEED => Class::LineFeed,
-            b'a'..=b'z' => Class::SmallLetter,
-            b'A'..=b'Z' => Class::CapitalLetter,
-            32..=126 => Class::Other,
-            _ => Class::Forbidden,
-        };
-        byte += 1;
+pub fn class(byte: u8) -> Class {
+    match byte {
+        b'0'..=b'9' => Class::Digit,
+        b'-' => Class::Minus,
+        b',' => Class::Comma,
+        b':' => Class::Colon,
+        b'=' => Class::Equals,
+        b' ' => Class::Space,
+        LINE_FEED => Class::LineFeed,
+        b'a'..=b'z' => Class::SmallLetter,
+        b'A'..=b'Z' => Class::CapitalLetter,
+        32..=126 => Class::Other,
+        _ => Class::Forbidden,
     }
-    table
-}
-
-fn class(byte: u8) -> Class {
-    CLASSES[usize::from(byte)]
 }
 
 // ---------------------------------------------------------------------------------------------

@@ -8,7 +8,7 @@ use reference::corners::{
 use reference::generate::{
     accepted, accepted_job, damaged, memory_length, noise, secret_pair, sheet_of, Rng, Shape,
 };
-use reference::model::{Class, ANSWER_BYTES, CLASSES, LENT, NUMBERS};
+use reference::model::{class, Class, ANSWER_BYTES, LENT, NUMBERS};
 use reference::{
     c_entry, in_secret_column, printed, read, run_sheet, Command, Job, Level, Refusal,
 };
@@ -153,8 +153,8 @@ fn c_entry_refuses_answer_memory_of_another_length_before_anything_else() {
 // Two definitions by themselves.
 
 #[test]
-fn the_table_of_classes_has_every_byte_in_its_class() {
-    let count = |class: Class| CLASSES.iter().filter(|&&found| found == class).count();
+fn every_byte_is_in_its_class() {
+    let count = |wanted: Class| (0..=255).filter(|&byte| class(byte) == wanted).count();
     assert_eq!(count(Class::Digit), 10);
     assert_eq!(count(Class::SmallLetter), 26);
     assert_eq!(count(Class::CapitalLetter), 26);
@@ -168,16 +168,16 @@ fn the_table_of_classes_has_every_byte_in_its_class() {
         (32, Class::Space),
         (10, Class::LineFeed),
     ];
-    for (byte, class) in single {
-        assert_eq!((CLASSES[byte], count(class)), (class, 1));
+    for (byte, wanted) in single {
+        assert_eq!((class(byte), count(wanted)), (wanted, 1));
     }
-    for (byte, &class) in CLASSES.iter().enumerate() {
+    for byte in 0..=255 {
         let forbidden = byte != 10 && !(32..=126).contains(&byte);
-        assert_eq!(class == Class::Forbidden, forbidden);
+        assert_eq!(class(byte) == Class::Forbidden, forbidden);
     }
-    assert_eq!(CLASSES[48], Class::Digit);
-    assert_eq!(CLASSES[97], Class::SmallLetter);
-    assert_eq!(CLASSES[65], Class::CapitalLetter);
+    assert_eq!(class(48), Class::Digit);
+    assert_eq!(class(97), Class::SmallLetter);
+    assert_eq!(class(65), Class::CapitalLetter);
 }
 
 #[test]
