@@ -215,7 +215,7 @@ void check_blocks(void)
     check_text_lengths();
     check_keys();
     check_refusals();
-    check_bytes(&entry);
+    check_bytes(&entry, PAVEBOX_BAD_COMMAND);
     check_levels();
     check_most_commands();
     check_long_texts();

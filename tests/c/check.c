@@ -190,22 +190,43 @@ void check_nulls(const struct entry *entry, const char *input, struct wanted emp
     free(answer);
 }
 
-void check_bytes(const struct entry *entry)
+static void check_open_bytes(const struct entry *entry, const char *name, size_t length)
 {
-    uint8_t text[70];
+    uint8_t text[MOST_BYTES];
+    memset(text, 'x', length);
+    check_call(entry, name, text, length, 0, REFUSED(2, 1));
+    memset(text, '\n', length);
+    text[length - 1] = 'x';
+    check_call(entry, name, text, length, 0, REFUSED(2, (uint32_t)length));
+    text[length - 1] = 127;
+    check_call(entry, name, text, length, 0, REFUSED(2, (uint32_t)length));
+    text[length / 2] = 31;
+    check_call(entry, name, text, length, 0, REFUSED(2, (uint32_t)(length / 2) + 1));
+}
+
+static void check_closed_bytes(const struct entry *entry, const char *name, size_t length,
+                               uint32_t other)
+{
+    uint8_t text[MOST_BYTES];
+    size_t place;
+    memset(text, 'x', length);
+    text[length - 1] = '\n';
+    check_call(entry, name, text, length, 0, REFUSED(other, 1));
+    for (place = 0; place + 1 < length; place++) {
+        text[place] = 127;
+        check_call(entry, name, text, length, 0, REFUSED(2, 1));
+        text[place] = 'x';
+    }
+}
+
+void check_bytes(const struct entry *entry, uint32_t other)
+{
     size_t length;
-    for (length = 1; length <= sizeof text; length++) {
+    for (length = 1; length <= MOST_BYTES; length++) {
         char name[32];
         snprintf(name, sizeof name, "2, %lu bytes", (unsigned long)length);
-        memset(text, 'x', length);
-        check_call(entry, name, text, length, 0, REFUSED(2, 1));
-        memset(text, '\n', length);
-        text[length - 1] = 'x';
-        check_call(entry, name, text, length, 0, REFUSED(2, (uint32_t)length));
-        text[length - 1] = 127;
-        check_call(entry, name, text, length, 0, REFUSED(2, (uint32_t)length));
-        text[length / 2] = 31;
-        check_call(entry, name, text, length, 0, REFUSED(2, (uint32_t)(length / 2) + 1));
+        check_open_bytes(entry, name, length);
+        check_closed_bytes(entry, name, length, other);
     }
 }
 

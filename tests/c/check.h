@@ -73,9 +73,11 @@ void check_short_answer(const struct entry *entry, const char *input, size_t len
 void check_nulls(const struct entry *entry, const char *input, struct wanted empty,
                  struct wanted no_room);
 
-/* Refusal 2 of texts of every length up to 70 bytes, which a scan that looks at several bytes in one
- * step must look through to the last byte, and no further. */
-void check_bytes(const struct entry *entry);
+/* Refusal 2 of texts of every length up to MOST_BYTES, with and without a line feed at the end, which
+ * a scan that looks at several bytes in one step must look through to the last byte, and no further.
+ * A line of letters without a fault of that kind gets the refusal other. */
+#define MOST_BYTES 70
+void check_bytes(const struct entry *entry, uint32_t other);
 
 /* The checks of each entry. */
 void check_run(void);

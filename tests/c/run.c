@@ -197,7 +197,7 @@ void check_run(void)
     check_output_lengths();
     check_sheet_lengths();
     check_refusals();
-    check_bytes(&entry);
+    check_bytes(&entry, PAVEBOX_BAD_NAME);
     check_long_sheets();
     check_fullest_sheet();
     check_clamped();

@@ -1,7 +1,7 @@
 -- Document 02, Note 6: "The contract of the class is the same." However it is found, the class of a byte is `Text.classOf`: at the ends of the ranges and next
 -- to them, and counted over all bytes.
 use mathlib.Core.Path.{_≡_}
-use mathlib.Core.List.{List, [], _∷_, _++_, map}
+use mathlib.Core.List.{List, [], _∷_, map}
 use Prim.Native.Nat.{ℕ, zero, suc}
 use Rattle.model.specs.Text.{bytes, classOf, count}
 

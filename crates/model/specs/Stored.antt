@@ -91,7 +91,7 @@ absentField = record { low = Absent; high = Absent }
 abbrev pub blankLine : MessageLine
 blankLine = record { slots = replicate keyCapacity absentSlot }
 
--- the command is the one that `Process.command` has beyond the last
+-- where no count covers it, a command is the one that `Process.command` has beyond the last
 abbrev pub nothingStored : StoredJob
 nothingStored =
     record {

@@ -316,7 +316,7 @@ impl StoredJob {
         [KeySlot { key: Key::Open }; KEY_CAPACITY]
     }
 
-    // The first word with no operands: all bytes are 0, so that the compiler clears the array at once.
+    // The first word, its operands 0: all bytes are 0, so that the compiler clears the array at once.
     pub fn no_commands() -> [Command; COMMAND_CAPACITY]
         ensures { λ r. ⌜ r ≡ replicate commandCapacity (blank Set) ⌝ }
     {

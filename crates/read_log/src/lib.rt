@@ -68,8 +68,8 @@ pub struct Log {
     pub messages: [MessageLine; MESSAGE_CAPACITY],
 }
 
-// The end of the first row and its fields, in one pass. The bytes that matter here all lie below the minus sign, and those of numbers do not. The comma is told
-// before the others, and these from what lies above the quote mark: of a choice among four single bytes a compiler makes a table.
+// The end of the first row and its fields, in one pass. The bytes that matter here all lie below the minus sign, and those of numbers do not. The comma is tested
+// first, then all that lies above the quote mark is passed: of a choice among four single bytes a compiler makes a table.
 fn scan_row(s: &[u8]) -> Row
     ensures { λ r. ⌜ rowAs r ≡ scan 0 1 (now (s .entry)) ⌝ }
 {

@@ -7,7 +7,7 @@ use Prim.Native.Nat.{ℕ, suc, _+_, _-_, _*_, _<_, _≤_, pred}
 use native.Mathlib.{Numerals.add-one, Omega.arith, Decide.decLt}
 use lib.{Dec.eqb, Dec.leb, ListN.length, ListN.getD, ListN.take, ListN.drop, ListN.drop-of-length-le, ListN.length-drop, ListN.take-append-drop, Seq.drop-cons, Seq.drop-drop, Seq.take-all, IntN.pos}
 use lib.{IntN.negsuc}
-use borrow.Author.Tests.{eq-eqb, ne-eqb, eqb-true, leb-true, leb-false, le-leb, lt-leb}
+use borrow.Author.Tests.{eq-eqb, ne-eqb, leb-true, leb-false, le-leb, lt-leb}
 use Rattle.model.specs.{Limits.greatestNumber, Limits.leastNumber, Parsed.got, Parsed.refused, Parsed._>>=_, Number.digits, Number.digitsTo, Number.within, Number.upTo}
 use Rattle.model.specs.{Number.fromOne, Number.natural, Number.negative, Number.positive, Number.number, Text.find, Text.count, Text.classOf, Text.between}
 use Rattle.model.specs.{Sheet.forbiddenLine, Sheet.closed, Sheet.overText}
@@ -60,9 +60,9 @@ module _ (n : ℕ) (s : List ℕ) (i : ℕ) where
 
 -- ---- The classes of bytes
 
-neither : {c : ℕ} (t : Bool) (x y : ℕ) → (x ≡ c → ⊥) → (y ≡ c → ⊥) → cond t x y ≡ c → ⊥
-neither true x y f g e = f e
-neither false x y f g e = g e
+nonzero : (t : Bool) (x y : ℕ) → (x ≡ 0 → ⊥) → (y ≡ 0 → ⊥) → cond t x y ≡ 0 → ⊥
+nonzero true x y f g e = f e
+nonzero false x y f g e = g e
 
 pub and-both : (p q : Bool) → p && q ≡ true → (p ≡ true) × (q ≡ true)
 and-both true q e = (refl, e)
@@ -95,48 +95,26 @@ class-digit b e = go (between 48 57 b) refl
     go : (t : Bool) → between 48 57 b ≡ t → (48 ≤ b) × (b ≤ 57)
     go true p = between-in 48 57 b p
     go false p =
-        absurd (neither (eqb b 45) 1 _ (omega arith)
-        (neither (eqb b 44) 2 _ (omega arith)
-        (neither (eqb b 58) 3 _ (omega arith)
-        (neither (eqb b 61) 4 _ (omega arith)
-        (neither (eqb b 32) 5 _ (omega arith)
-        (neither (eqb b 10) 6 _ (omega arith)
-        (neither (between 97 122 b) 7 _ (omega arith)
-        (neither (between 65 90 b) 8 _ (omega arith)
-        (neither (between 32 126 b) 9 10 (omega arith) (omega arith)))))))))
+        absurd (nonzero (eqb b 45) 1 _ (omega arith)
+        (nonzero (eqb b 44) 2 _ (omega arith)
+        (nonzero (eqb b 58) 3 _ (omega arith)
+        (nonzero (eqb b 61) 4 _ (omega arith)
+        (nonzero (eqb b 32) 5 _ (omega arith)
+        (nonzero (eqb b 10) 6 _ (omega arith)
+        (nonzero (between 97 122 b) 7 _ (omega arith)
+        (nonzero (between 65 90 b) 8 _ (omega arith)
+        (nonzero (between 32 126 b) 9 10 (omega arith) (omega arith)))))))))
         (rw p at e))
 
--- a byte of class 6 is a line feed
-pub class-feed : (b : ℕ) → classOf b ≡ 6 → b ≡ 10
-unfolding classOf
-class-feed b e = go (eqb b 10) refl
-  where
-    go : (t : Bool) → eqb b 10 ≡ t → b ≡ 10
-    go true p = eqb-true b 10 p
-    go false p =
-        absurd (neither (between 48 57 b) 0 _ (omega arith)
-        (neither (eqb b 45) 1 _ (omega arith)
-        (neither (eqb b 44) 2 _ (omega arith)
-        (neither (eqb b 58) 3 _ (omega arith)
-        (neither (eqb b 61) 4 _ (omega arith)
-        (neither (eqb b 32) 5 _ (omega arith)
-        (neither (between 97 122 b) 7 _ (omega arith)
-        (neither (between 65 90 b) 8 _ (omega arith)
-        (neither (between 32 126 b) 9 10 (omega arith) (omega arith)))))))))
-        (rw p at e))
-
-pub feed-class : (b : ℕ) → b ≡ 10 → classOf b ≡ 6
-unfolding classOf
-feed-class b e = rw e
-
--- and a digit is of class 0; so of the other ranges
+-- and a digit is of class 0
 pub digit-class : (b : ℕ) → 48 ≤ b → b ≤ 57 → classOf b ≡ 0
 unfolding classOf
 digit-class b h l = rw (le-leb 48 b h, le-leb b 57 l)
 
-pub small-class : (b : ℕ) → 97 ≤ b → b ≤ 122 → classOf b ≡ 7
+-- the other ranges: of a byte above the equals sign only they are asked for
+above-signs : (b : ℕ) → 61 < b → classOf b ≡ cond (between 97 122 b) 7 (cond (between 65 90 b) 8 (cond (between 32 126 b) 9 10))
 unfolding classOf
-small-class b h l =
+above-signs b h =
     rw (
       lt-leb b 57 (omega arith),
       ne-eqb b 45 (omega arith),
@@ -146,26 +124,13 @@ small-class b h l =
       ne-eqb b 32 (omega arith),
       ne-eqb b 10 (omega arith),
       le-leb 48 b (omega arith),
-      le-leb 97 b h,
-      le-leb b 122 l,
     )
 
+pub small-class : (b : ℕ) → 97 ≤ b → b ≤ 122 → classOf b ≡ 7
+small-class b h l = above-signs b (omega arith) ∙ rw (le-leb 97 b h, le-leb b 122 l)
+
 pub capital-class : (b : ℕ) → 65 ≤ b → b ≤ 90 → classOf b ≡ 8
-unfolding classOf
-capital-class b h l =
-    rw (
-      lt-leb b 57 (omega arith),
-      ne-eqb b 45 (omega arith),
-      ne-eqb b 44 (omega arith),
-      ne-eqb b 58 (omega arith),
-      ne-eqb b 61 (omega arith),
-      ne-eqb b 32 (omega arith),
-      ne-eqb b 10 (omega arith),
-      le-leb 48 b (omega arith),
-      lt-leb 97 b (omega arith),
-      le-leb 65 b h,
-      le-leb b 90 l,
-    )
+capital-class b h l = above-signs b (omega arith) ∙ rw (lt-leb 97 b (omega arith), le-leb 65 b h, le-leb b 90 l)
 
 pub other-class : (b : ℕ) → 32 ≤ b → b ≤ 126 → between 48 57 b ≡ false → (b ≡ 45 → ⊥) → (b ≡ 44 → ⊥) → (b ≡ 58 → ⊥) → (b ≡ 61 → ⊥) → (b ≡ 32 → ⊥)
     → between 97 122 b ≡ false → between 65 90 b ≡ false → classOf b ≡ 9
@@ -191,24 +156,13 @@ below-class b h n =
     )
 
 pub above-class : (b : ℕ) → 126 < b → classOf b ≡ 10
-unfolding classOf
 above-class b h =
-    rw (
-      lt-leb b 57 (omega arith),
-      ne-eqb b 45 (omega arith),
-      ne-eqb b 44 (omega arith),
-      ne-eqb b 58 (omega arith),
-      ne-eqb b 61 (omega arith),
-      ne-eqb b 32 (omega arith),
-      ne-eqb b 10 (omega arith),
-      le-leb 48 b (omega arith),
-      lt-leb b 122 (omega arith),
-      le-leb 97 b (omega arith),
-      lt-leb b 90 (omega arith),
-      le-leb 65 b (omega arith),
-      lt-leb b 126 h,
-      le-leb 32 b (omega arith),
-    )
+    let outside : (lo hi : ℕ) → hi ≤ 126 → between lo hi b ≡ false = λ lo hi l. rw (lt-leb b hi (omega arith)) (never (leb lo b)) in
+    above-signs b (omega arith) ∙ rw (outside 97 122 (omega arith), outside 65 90 (omega arith), outside 32 126 (omega arith))
+  where
+    never : (t : Bool) → t && false ≡ false
+    never true = refl
+    never false = refl
 
 -- digits: a byte more, a byte that is none, the end, and a value that is past the limit already
 pub digits-next : (m a : ℕ) (s : List ℕ) (i : ℕ) → i < length s → classOf (getD s i 0) ≡ 0
@@ -308,7 +262,7 @@ pub count-end : (c : ℕ) (s : List ℕ) (i : ℕ) → length s ≤ i → count 
 unfolding count
 count-end c s i h = rw (done s i h)
 
-pub count-most : (c : ℕ) (s : List ℕ) → count c s ≤ length s
+count-most : (c : ℕ) (s : List ℕ) → count c s ≤ length s
 unfolding count
 count-most c [] = omega arith
 count-most c (b ∷ bs) = go (eqb b c) (count-most c bs)
@@ -373,21 +327,21 @@ module _ (n : ℕ) (s : List ℕ) where
   forbids-cut : forbids s ≡ cond (forbids (take n s)) true (forbids (drop n s))
   forbids-cut = ap forbids (sym (take-append-drop n s)) ∙ forbids-join (take n s) (drop n s)
 
-  pub front-allowed : forbids s ≡ false → forbids (take n s) ≡ false
+  front-allowed : forbids s ≡ false → forbids (take n s) ≡ false
   front-allowed e = go (forbids (take n s)) (forbids (drop n s)) (sym e ∙ forbids-cut)
     where
       go : (x y : Bool) → false ≡ cond x true y → x ≡ false
       go true y e = sym e
       go false y e = refl
 
-  pub back-allowed : forbids s ≡ false → forbids (drop n s) ≡ false
+  back-allowed : forbids s ≡ false → forbids (drop n s) ≡ false
   back-allowed e = go (forbids (take n s)) (forbids (drop n s)) (sym e ∙ forbids-cut)
     where
       go : (x y : Bool) → false ≡ cond x true y → y ≡ false
       go true y e = absurd (true≢false (sym e))
       go false y e = sym e
 
-  pub both-allowed : forbids (take n s) ≡ false → forbids (drop n s) ≡ false → forbids s ≡ false
+  both-allowed : forbids (take n s) ≡ false → forbids (drop n s) ≡ false → forbids s ≡ false
   both-allowed e f = forbids-cut ∙ rw (e, f)
 
 -- a part of m bytes from a on: where it has a forbidden byte, the text has one

@@ -5,14 +5,12 @@ ghost use mathlib.Core.Path.{_≡_};
 ghost use mathlib.Core.Bool.{_&&_, not};
 ghost use Prim.Native.Nat.{_<_, min};
 ghost use lib.{Dec.leb, ListN.length};
-ghost use Rattle.model.specs.{Text.between, Text.classOf, Text.find, Number.digitsTo, Number.upTo, Number.fromOne, Number.negative, Number.positive, Number.number};
+ghost use Rattle.model.specs.{Text.between as Text·between, Text.classOf, Text.find, Number.digitsTo, Number.upTo, Number.fromOne, Number.negative, Number.positive, Number.number};
 ghost use Rattle.model.specs.Sheet.{closed};
 ghost use Rattle.read_text.specs.Text.{naturalAs, wholeAs, forbids, spoiltLine, starts};
 
-// The classes that a scan asks for, numbered from 0 in document 01's order.
-const LINE_FEED: u8 = 6;
-
-const FORBIDDEN: u8 = 10;
+// The class that a scan asks for.
+const FORBIDDEN_CLASS: u8 = 10;
 
 // The bytes that a scan tests at once.
 const AT_ONCE: usize = 16;
@@ -29,8 +27,8 @@ pub enum Whole {
     Refused(u32),
 }
 
-fn within(lo: u8, hi: u8, b: u8) -> bool
-    ensures { λ r. ⌜ r ≡ between lo hi b ⌝ }
+fn between(lo: u8, hi: u8, b: u8) -> bool
+    ensures { λ r. ⌜ r ≡ Text·between lo hi b ⌝ }
 {
     if b < lo {
         return false;
@@ -38,18 +36,18 @@ fn within(lo: u8, hi: u8, b: u8) -> bool
     b <= hi
 }
 
-// The class of a byte, by tests on its ranges. The bytes outside of the largest range come first: of a caller that asks for the forbidden ones alone, a
+// The class of a byte, numbered from 0 in document 01's order, by tests on ranges. The bytes outside of the largest range come first: of a caller that asks for the forbidden ones alone, a
 // compiler keeps these tests and no others.
 pub fn class_of(b: u8) -> u8
     ensures { λ r. ⌜ r ≡ classOf b ⌝ }
 {
-    if !within(b' ', b'~', b) {
+    if !between(b' ', b'~', b) {
         if b == b'\n' {
-            return LINE_FEED;
+            return 6;
         }
-        return FORBIDDEN;
+        return FORBIDDEN_CLASS;
     }
-    if within(b'0', b'9', b) {
+    if between(b'0', b'9', b) {
         return 0;
     }
     if b == b'-' {
@@ -67,10 +65,10 @@ pub fn class_of(b: u8) -> u8
     if b == b' ' {
         return 5;
     }
-    if within(b'a', b'z', b) {
+    if between(b'a', b'z', b) {
         return 7;
     }
-    if within(b'A', b'Z', b) {
+    if between(b'A', b'Z', b) {
         return 8;
     }
     9
@@ -117,7 +115,7 @@ fn has_forbidden(s: &[u8]) -> bool
     let mut found = false;
     let mut i = 0;
     while i < s.len() {
-        if class_of(s[i]) == FORBIDDEN {
+        if class_of(s[i]) == FORBIDDEN_CLASS {
             found = true;
         }
         i += 1;
@@ -157,12 +155,12 @@ fn fault_line(s: &[u8]) -> usize
     let mut line: usize = 1;
     let mut i = 0;
     while i < s.len() {
-        let class = class_of(s[i]);
-        if class == FORBIDDEN {
+        let b = s[i];
+        if class_of(b) == FORBIDDEN_CLASS {
             return line;
         }
         i += 1;
-        if class == LINE_FEED {
+        if b == b'\n' {
             if s.len() <= i {
                 return 0;
             }

@@ -13,7 +13,7 @@ use Rattle.read_text.proofs.class_of.Tie as tie
 returns-2 : tie.Need-returns-2
 returns-2 c =
     let b = c .before .before .before .args .b in
-    let e = sym (c .before .before .within .ensures) ∙ not-true _ (c .before .if1 .taken) in
+    let e = sym (c .before .before .between .ensures) ∙ not-true _ (c .before .if1 .taken) in
     ⊎-elim (λ h. sym (below-class b (omega arith) (omega arith))) (λ h. sym (above-class b (omega arith))) (between-out _ _ b e)
 
 -- the points of the code: the first test, that of digits, and that of the last single byte
@@ -30,7 +30,7 @@ byteOf c = c .before .before .args .b
 allowed : (c : tie.Else1) → (32 ≤ byteOf c) × (byteOf c ≤ 126)
 allowed c =
     let b = byteOf c in
-    let h = between-in _ _ b (sym (c .before .within .ensures) ∙ not-false _ (c .if1 .left)) in
+    let h = between-in _ _ b (sym (c .before .between .ensures) ∙ not-false _ (c .if1 .left)) in
     (omega (arith, h .0), omega (arith, h .1))
 
 returns-11 : tie.Need-returns-11
@@ -41,10 +41,10 @@ returns-11 c =
     let b = byteOf r in
     let h = allowed r in
     sym (other-class b (h .0) (h .1)
-    (between-less b (sym (d .before .within2 .ensures) ∙ d .if3 .left) 48 57 (omega arith) (omega arith))
+    (between-less b (sym (d .before .between2 .ensures) ∙ d .if3 .left) 48 57 (omega arith) (omega arith))
     (p .before .before .before .before .if4 .left) (p .before .before .before .if5 .left) (p .before .before .if6 .left) (p .before .if7 .left) (p .if8 .left)
-    (between-less b (sym (c .before .before .before .within3 .ensures) ∙ c .before .before .if9 .left) 97 122 (omega arith) (omega arith))
-    (between-less b (sym (c .before .within4 .ensures) ∙ c .if10 .left) 65 90 (omega arith) (omega arith)))
+    (between-less b (sym (c .before .before .before .between3 .ensures) ∙ c .before .before .if9 .left) 97 122 (omega arith) (omega arith))
+    (between-less b (sym (c .before .between4 .ensures) ∙ c .if10 .left) 65 90 (omega arith) (omega arith)))
 
 pub class-of-spec : {M : Type 1} → statement M
 unfolding classOf
@@ -55,14 +55,14 @@ class-of-spec =
     (λ c. rw (c .if2 .taken))
     returns-2
     (λ c κs. search needs)
-    (λ c. let b = byteOf (c .before .before) in let h = between-in _ _ b (sym (c .before .within2 .ensures) ∙ c .if3 .taken) in sym (digit-class b (omega (arith, h .0)) (omega (arith, h .1))))
+    (λ c. let b = byteOf (c .before .before) in let h = between-in _ _ b (sym (c .before .between2 .ensures) ∙ c .if3 .taken) in sym (digit-class b (omega (arith, h .0)) (omega (arith, h .1))))
     (λ c. rw (c .if4 .taken))
     (λ c. rw (c .if5 .taken))
     (λ c. rw (c .if6 .taken))
     (λ c. rw (c .if7 .taken))
     (λ c. rw (c .if8 .taken))
     (λ c κs. search needs)
-    (λ c. let b = byteOf (rangeOf (digitsOf (c .before .before))) in let h = between-in _ _ b (sym (c .before .within3 .ensures) ∙ c .if9 .taken) in sym (small-class b (omega (arith, h .0)) (omega (arith, h .1))))
+    (λ c. let b = byteOf (rangeOf (digitsOf (c .before .before))) in let h = between-in _ _ b (sym (c .before .between3 .ensures) ∙ c .if9 .taken) in sym (small-class b (omega (arith, h .0)) (omega (arith, h .1))))
     (λ c κs. search needs)
-    (λ c. let b = byteOf (rangeOf (digitsOf (c .before .before .before .before))) in let h = between-in _ _ b (sym (c .before .within4 .ensures) ∙ c .if10 .taken) in sym (capital-class b (omega (arith, h .0)) (omega (arith, h .1))))
+    (λ c. let b = byteOf (rangeOf (digitsOf (c .before .before .before .before))) in let h = between-in _ _ b (sym (c .before .between4 .ensures) ∙ c .if10 .taken) in sym (capital-class b (omega (arith, h .0)) (omega (arith, h .1))))
     returns-11)

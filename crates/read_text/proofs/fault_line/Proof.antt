@@ -5,9 +5,9 @@ use mathlib.Core.Bool.{false}
 use mathlib.Core.Path.{_≡_, refl, sym, _∙_}
 use native.Mathlib.Omega.{arith}
 use borrow.Author.Needs.{needs}
-use lib.ListN.{length, drop, getD}
+use lib.ListN.{length, drop}
 use Rattle.model.specs.{Sheet.forbiddenLine, Sheet.closed, Text.count}
-use Rattle.read_text.proofs.Laws.{line-end, line-forbidden, line-feed, line-same, class-feed, feed-class, count-here, count-next, count-end, closed-empty, last-closed, last-open}
+use Rattle.read_text.proofs.Laws.{line-end, line-forbidden, line-feed, line-same, count-here, count-next, count-end, closed-empty, last-closed, last-open}
 use Rattle.read_text.proofs.Laws.{spoilt-forbidden, spoilt-none, spoilt-open}
 use Rattle.read_text.proofs.fault_line.Statement.{statement}
 use Rattle.read_text.proofs.fault_line.Tie as tie
@@ -33,7 +33,7 @@ returns-2 c =
     let l = p .before .before .before .loop in
     let s = p .before .before .before .before .before .args .s .now in
     let h = p .before .before .loop-test .taken in
-    let b = class-feed _ (sym (p .class-of .ensures) ∙ c .before .if2 .taken) in
+    let b = c .before .if2 .taken in
     let none = sym (l .inv .3) ∙ line-feed (l .line) s (l .i) h b ∙ line-end (l .line + 1) s (l .i + 1) (c .if3 .taken) in
     sym (spoilt-none s none (last-closed s (l .i) (omega (arith, h, c .if3 .taken)) b))
 
@@ -43,7 +43,7 @@ loop-again c =
     let l = p .before .before .before .loop in
     let s = p .before .before .before .before .before .args .s .now in
     let h = p .before .before .loop-test .taken in
-    let b = class-feed _ (sym (p .class-of .ensures) ∙ c .before .if2 .taken) in (
+    let b = c .before .if2 .taken in (
       omega arith,
       omega arith,
       omega arith,
@@ -59,7 +59,7 @@ loop-again-2 c =
     let s = p .before .before .before .before .before .args .s .now in
     let h = p .before .before .loop-test .taken in
     let k = p .class-of .ensures in
-    let n : (getD s (l .i) 0 ≡ 10 → ⊥) = λ e. c .if2 .left (k ∙ feed-class _ e) in (
+    let n = c .if2 .left in (
       omega arith,
       omega arith,
       omega arith,
