@@ -4,11 +4,11 @@ use Rattle.write_text.proofs.Laws.{put-nothing}
 use Rattle.write_text.proofs.put_if.Statement.{statement}
 use Rattle.write_text.proofs.put_if.Tie as tie
 
+put-byte-requires : tie.Need-put-byte-requires
+put-byte-requires c κs = rw (c .before .if1 .taken) at (c .before .before .before .pre)
+
+returns : tie.Need-returns
+returns c = rw (c .before .before .before .before .if1 .taken) (c .before .before .put-byte .ensures)
+
 pub put-if-spec : {M : Type 1} → statement M
-put-if-spec =
-    tie.close
-    (tie.spec
-    (λ c κs. rw (c .before .if1 .taken) at (c .before .before .before .pre))
-    (λ c. search needs)
-    (λ c. rw (c .before .before .before .before .if1 .taken) (c .before .before .put-byte .ensures))
-    (λ c. rw (c .if1 .left) (put-nothing _ _)))
+put-if-spec = tie.close (tie.spec put-byte-requires (λ c. search needs) returns (λ c. rw (c .if1 .left) (put-nothing _ _)))

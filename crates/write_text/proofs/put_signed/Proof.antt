@@ -15,11 +15,14 @@ sign s = byteIf (s .args .minus) minus
 abbrev size : tie.Start → List ℕ
 size s = natural (s .args .size)
 
+put-if-requires : tie.Need-put-if-requires
+put-if-requires c κs = let s = c .before .before in room-first (sign s) (size s) (s .pre)
+
+put-natural-requires : tie.Need-put-natural-requires
+put-natural-requires c κs = let p = c .before .before .before in let s = p .before .before .before in room-next (sign s) (size s) (s .pre) (p .put-if .ensures)
+
+returns : tie.Need-returns
+returns c = put-then (c .before .before .before .before .before .before .put-if .ensures) (c .before .before .put-natural .ensures)
+
 pub put-signed-spec : {M : Type 1} → statement M
-put-signed-spec =
-    tie.close
-    (tie.spec
-    (λ c κs. let s = c .before .before in room-first (sign s) (size s) (s .pre))
-    (λ c κs. let p = c .before .before .before in let s = p .before .before .before in room-next (sign s) (size s) (s .pre) (p .put-if .ensures))
-    (λ c. search needs)
-    (λ c. put-then (c .before .before .before .before .before .before .put-if .ensures) (c .before .before .put-natural .ensures)))
+put-signed-spec = tie.close (tie.spec put-if-requires put-natural-requires (λ c. search needs) returns)

@@ -18,14 +18,14 @@ text c =
     let e = c .magnitude .ensures ∙ ap natAbs (toZ-ofZ {w = w32} (startOf c .fits .x)) in
     whole-is x ∙ ap (signed (ltZ x (pos 0))) (sym e)
 
-pub put-whole-spec : {M : Type 1} → statement M
-put-whole-spec =
-    tie.close
-    (tie.spec
-    (λ c κs. search needs)
-    (λ c κs. let m = c .before in rw (toZ-ofZ {w = w32} (startOf m .fits .x)) (rw (text m) at (startOf m .pre)))
-    (λ c. search needs)
-    (λ c.
+put-signed-requires : tie.Need-put-signed-requires
+put-signed-requires c κs = let m = c .before in rw (toZ-ofZ {w = w32} (startOf m .fits .x)) (rw (text m) at (startOf m .pre))
+
+returns : tie.Need-returns
+returns c =
     let p = c .before .before in
     let m = p .before .before in
-    rw (text m) (rw (toZ-ofZ {w = w32} (startOf m .fits .x)) at (p .put-signed .ensures))))
+    rw (text m) (rw (toZ-ofZ {w = w32} (startOf m .fits .x)) at (p .put-signed .ensures))
+
+pub put-whole-spec : {M : Type 1} → statement M
+put-whole-spec = tie.close (tie.spec (λ c κs. search needs) put-signed-requires (λ c. search needs) returns)
