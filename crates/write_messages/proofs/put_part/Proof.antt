@@ -28,17 +28,20 @@ part-is false k v = refl
 text : (s : tie.Start) → partText (s .args .first) (s .args .k) (s .args .v) ≡ joint s ++ own s
 text s = part-is (s .args .first) (s .args .k) (s .args .v)
 
-pub put-part-spec : {M : Type 1} → statement M
-put-part-spec =
-    tie.close
-    (tie.spec
-    (λ c κs. let s = c .before .before in room-first (joint s) (own s) (rw (text s) at (s .pre .1)))
-    (λ c κs.
+put-if-requires : tie.Need-put-if-requires
+put-if-requires c κs = let s = c .before .before in room-first (joint s) (own s) (rw (text s) at (s .pre .1))
+
+put-pair-requires : tie.Need-put-pair-requires
+put-pair-requires c κs =
     let p = c .before .before .before in
     let s = p .before .before .before in
-    rw (toZ-ofZ {w = w32} (s .fits .v)) (s .pre .0, room-next (joint s) (own s) (rw (text s) at (s .pre .1)) (p .put-if .ensures)))
-    (λ c. search needs)
-    (λ c.
+    rw (toZ-ofZ {w = w32} (s .fits .v)) (s .pre .0, room-next (joint s) (own s) (rw (text s) at (s .pre .1)) (p .put-if .ensures))
+
+returns : tie.Need-returns
+returns c =
     let p = c .before .before .before .before .before .before in
     let s = p .before .before .before in
-    rw (text s) (put-then (p .put-if .ensures) (rw (toZ-ofZ {w = w32} (s .fits .v)) at (c .before .before .put-pair .ensures)))))
+    rw (text s) (put-then (p .put-if .ensures) (rw (toZ-ofZ {w = w32} (s .fits .v)) at (c .before .before .put-pair .ensures)))
+
+pub put-part-spec : {M : Type 1} → statement M
+put-part-spec = tie.close (tie.spec put-if-requires put-pair-requires (λ c. search needs) returns)
