@@ -5,6 +5,7 @@ pub mod Decimal
 pub mod Examples
 pub mod Variables
 pub mod Stored
+pub mod Ready
 pub mod Levels
 pub mod Turn
 pub mod Forms

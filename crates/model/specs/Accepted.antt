@@ -50,9 +50,12 @@ placeOf Receive = 12
 placeOf Send = 13
 placeOf Stop = 14
 
--- the row of a word
+-- the row at a place of the table, and that of a word
+abbrev pub rowAt : ℕ → Row
+rowAt n = getD table n (record { word = []; op = Stop; parts = [] })
+
 unfoldable pub rowFor : Op → Row
-rowFor o = getD table (placeOf o) (record { word = []; op = Stop; parts = [] })
+rowFor o = rowAt (placeOf o)
 
 -- an operand is among these; two operands are compared by their numbers
 abbrev pub ordinal : Operand → ℕ

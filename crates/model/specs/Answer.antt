@@ -87,10 +87,14 @@ answered ns m = record { returned = getD ns 0 0; output = m; answer = allLe32 ns
 abbrev pub bytesFor : ℕ → ℕ
 bytesFor count = 4 * count
 
--- Refusal 10: "the answer memory is not exactly 24 bytes; returned before anything else, nothing written", where Note 3 has 28 for 24. An entry whose answer has
--- so many numbers comes to x, unless the answer memory a has another length than they take; m is the output memory.
+-- Refusal 10: "the answer memory is not exactly 24 bytes; returned before anything else, nothing written", where Note 3 has 28 for 24. A call of an entry whose
+-- answer has so many numbers comes to x; where the answer memory a has another length than they take, to y.
+abbrev pub sized : {X : Type 0} → ℕ → List ℕ → X → X → X
+sized count a x y = cond (eqb (length a) (bytesFor count)) x y
+
+-- the same of an entry with the output memory m
 unfoldable pub entered : ℕ → List ℕ → List ℕ → After → After
-entered count m a x = cond (eqb (length a) (bytesFor count)) x (record { returned = 10; output = m; answer = a })
+entered count m a x = sized count a x (record { returned = 10; output = m; answer = a })
 
 -- Note 3: "a seventh number", "The C answer memory becomes 28 bytes, and 10 follows that."
 abbrev pub numberCount : ℕ

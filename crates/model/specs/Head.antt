@@ -1,12 +1,12 @@
 -- The first lines of a sheet: `sheet`, which chooses the form f of the lines after it, `keys` and `secret`.
 use mathlib.Core.List.{List}
 use Prim.Native.Nat.{ℕ}
-use Rattle.model.specs.{Parsed.Parsed, Number.fromOne, Text.bytes, Phase.Phase, Phase.one, Phase.many, Pair.ByKey, Pair.everywhere, Pair.part}
+use Rattle.model.specs.{Parsed.Parsed, Number.fromOne, Text.bytes, Phase.Phase, Phase.one, Phase.many, Pair.ByKey, Pair.everywhere, Pair.part, Limits.formNumber}
 use Rattle.model.specs.Data.{Form, Key, Open, Secret}
 
 -- "`sheet=1`, once." Refusal 4 names "the 1 of `sheet`".
 unfoldable pub sheetLine : List ℕ → Parsed ℕ
-sheetLine s = fromOne 1 s
+sheetLine s = fromOne formNumber s
 
 unfoldable pub readFirst : ℕ → List (List ℕ) → Phase ℕ
 readFirst n ls = one (bytes "sheet") sheetLine n ls

@@ -5,6 +5,10 @@ use Prim.Native.Nat.{ℕ}
 abbrev pub mostBytes : ℕ
 mostBytes = 16384
 
+-- "`sheet=1`, once.": the number of the one form that there is
+abbrev pub formNumber : ℕ
+formNumber = 1
+
 -- "`keys=K`, once, K from 1 to 8."
 abbrev pub mostKeys : ℕ
 mostKeys = 8

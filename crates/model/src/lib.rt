@@ -15,6 +15,12 @@ pub const MOST_BYTES: usize = 16384;
 
 pub const LAST_VARIABLE: u64 = 7;
 
+// The words of the table of commands.
+pub const WORDS: u32 = 15;
+
+// The number of the one form that there is.
+pub const FORM_NUMBER: u64 = 1;
+
 // The limits of a sheet that begins `sheet=1`.
 const MOST_KEYS: u64 = 8;
 

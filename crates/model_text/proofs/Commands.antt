@@ -68,7 +68,7 @@ operand-spans c InT = whole-spans (pos _)
 operand-spans c InN = whole-spans (c .n)
 
 -- d with these operands of c in place of its own
-abbrev replaced : List Operand → Command → Command → Command
+abbrev pub replaced : List Operand → Command → Command → Command
 replaced os c d =
     record {
       op = d .op;

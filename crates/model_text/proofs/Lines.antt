@@ -27,7 +27,7 @@ turns-other : (w v : List ℕ) (us : List (List ℕ)) → same (bytes "turns") w
 unfolding bytes free
 turns-other w v us h = other-line w (bytes "turns") v us refl h
 
-written-other : (w v : List ℕ) (ms : List (List Entry)) (us : List (List ℕ)) → same (bytes "turns") w ≡ false → same (bytes "msg") w ≡ false
+pub written-other : (w v : List ℕ) (ms : List (List Entry)) (us : List (List ℕ)) → same (bytes "turns") w ≡ false → same (bytes "msg") w ≡ false
     → Other w (written ms ++ turnsThen v us)
 unfolding bytes free
 written-other w v [] us h k = turns-other w v us h
@@ -69,7 +69,7 @@ module _ (v : List ℕ) (us : List (List ℕ)) (ms : List (List Entry)) where
   msg-other = turns-other (bytes "msg") v us refl
 
   -- behind messages that are read already, up to the limit
-  written-read : (f : Form) (K n : ℕ) (xs : List (List Entry)) → Small K → Every (Full K) ms → length xs + length ms ≤ f .messages
+  pub written-read : (f : Form) (K n : ℕ) (xs : List (List Entry)) → Small K → Every (Full K) ms → length xs + length ms ≤ f .messages
       → (m : ℕ) × (many (bytes "msg") (oneMore (f .messages) (readMessage K)) n xs new ≡ got (xs ++ ms) m old)
   unfolding bytes free
   written-read f K n xs small full most =

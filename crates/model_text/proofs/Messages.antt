@@ -33,7 +33,7 @@ part-read : (K : ℕ) (e : ByKey Entry) (kv : ℕ × ℤ) → Small K → e .nex
 unfolding part
 part-read K e kv small above below range = rw (pair-read K (e .next) kv small above below range)
 
-pair-spans : (kv : ℕ × ℤ) → Spans 45 58 (pairText kv)
+pub pair-spans : (kv : ℕ × ℤ) → Spans 45 58 (pairText kv)
 unfolding pairText
 pair-spans kv =
     every-append _ (natural (kv .0)) (colon ∷ whole (kv .1))
@@ -65,7 +65,7 @@ module _ (K : ℕ) (small : Small K) where
       → Makes (record { next = n; at = front ++ (e ∷ rs) }) ps (front ++ (e ∷ es))
   in-place e front es rs n ps r = (r .0, simp append-snoc at (r .1))
 
-  entries-read : (es front : List Entry) (n i : ℕ) → n ≤ i → length front ≡ i → i + length es ≡ K → Every EntryInRange es
+  pub entries-read : (es front : List Entry) (n i : ℕ) → n ≤ i → length front ≡ i → i + length es ≡ K → Every EntryInRange es
       → Makes (before n front es) (texts i es) (front ++ es)
   unfolding pairs parts
   entries-read [] front n i l q k h = (n, refl)

@@ -19,7 +19,7 @@ after-line : (w u v : List ℕ) → Free equalsSign u → after w (named u v) �
 unfolding after named
 after-line w u v h = rw (divide-past equalsSign 3 u v h)
 
-after-own : (w v : List ℕ) → Free equalsSign w → after w (named w v) ≡ Parsed.got v
+pub after-own : (w v : List ℕ) → Free equalsSign w → after w (named w v) ≡ Parsed.got v
 after-own w v h = after-line w w v h ∙ ap (λ (t : Bool). need t 3 >> Parsed.got v) (same-refl w)
 
 -- a line of the name w
@@ -94,7 +94,7 @@ module _ {A : Type 0} (w : List ℕ) (f : A → List ℕ → Parsed A) where
   leads-keep P step (none o) p = p
   leads-keep P step (line q r h) p = leads-keep P step h (step _ _ _ r p)
 
-  many-next : (n : ℕ) (a b : A) (v : List ℕ) (ls : List (List ℕ)) → Free equalsSign w → f a v ≡ Parsed.got b → many w f n a (named w v ∷ ls) ≡ many w f (n + 1) b ls
+  pub many-next : (n : ℕ) (a b : A) (v : List ℕ) (ls : List (List ℕ)) → Free equalsSign w → f a v ≡ Parsed.got b → many w f n a (named w v ∷ ls) ≡ many w f (n + 1) b ls
   unfolding many
   many-next n a b v ls h e = rw (after-own w v h, e)
 

@@ -48,7 +48,7 @@ abbrev Readable : ℕ → ℕ → Command → Type 0
 Readable K most c = Within K most c × Bare c
 
 -- written commands, before other lines
-commands-written : (f : Form) (K n : ℕ) (cs : List Command) (tail : List (List ℕ)) → Small K → Small (f .commands) → 1 ≤ length cs → length cs ≤ f .commands
+pub commands-written : (f : Form) (K n : ℕ) (cs : List Command) (tail : List (List ℕ)) → Small K → Small (f .commands) → 1 ≤ length cs → length cs ≤ f .commands
     → Every (Readable K (f .commands)) cs → Other (bytes "do") tail → (m : ℕ) × (readCommands f K n (map commandLine cs ++ tail) ≡ got cs m tail)
 unfolding readCommands bytes free
 commands-written f K n cs tail small target any few readable other =
@@ -79,10 +79,10 @@ module _ (old tail : List (List ℕ)) (all : Every (Named (bytes "do")) old) (ot
   keys-same f ks K top n ds e = let g = messages-got f ks top ds K n tail j e in ap (λ (x : Job). x .keys) (sym (g .4 .job))
 
   module _ (any : 1 ≤ length cs) (within : Every (Within (length (j .keys)) (length cs)) cs) (bare : Every Bare cs) where
-    near : Every (λ (c : Command). c .t ≤ length cs) cs
+    pub near : Every (λ (c : Command). c .t ≤ length cs) cs
     near = every-imply (Within (length (j .keys)) (length cs)) (λ c. c .t ≤ length cs) (λ c h. h .t) cs within
 
-    readable : (most : ℕ) → length cs ≤ most → Every (Readable (length (j .keys)) most) cs
+    pub readable : (most : ℕ) → length cs ≤ most → Every (Readable (length (j .keys)) most) cs
     readable most few =
         every-both (Within (length (j .keys)) (length cs)) Bare (Readable (length (j .keys)) most)
         (λ c h b. (record { v = h .v; w = h .w; k = h .k; t = omega (arith, h .t); n = h .n }, b)) cs within bare
@@ -125,7 +125,7 @@ do-other s h = go (decLt (find lineFeed s) (length s))
     go (yes l) = rw (lines-more s l) (do-foreign _ (starts-take (bytes "do=") s (find lineFeed s) h))
     go (no l) = let m : length s ≤ find lineFeed s = omega arith in rw (lines-none s m) tt
 
-do-next : (w : List ℕ) (ls tail : List (List ℕ)) → 1 ≤ length ls → Every (Named (bytes "do")) ls → same (bytes "do") w ≡ false → Other w (ls ++ tail)
+pub do-next : (w : List ℕ) (ls tail : List (List ℕ)) → 1 ≤ length ls → Every (Named (bytes "do")) ls → same (bytes "do") w ≡ false → Other w (ls ++ tail)
 unfolding bytes free
 do-next w [] tail any h differ = absurd (omega arith)
 do-next w (l ∷ ls) tail any h differ = subst (λ (x : List ℕ). Other w (x ∷ (ls ++ tail))) (sym (h .0 .1)) (other-line w (bytes "do") (h .0 .0) (ls ++ tail) refl differ)

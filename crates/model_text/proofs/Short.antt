@@ -18,17 +18,17 @@ use Rattle.model_text.proofs.Commands.{widest, widestParts, in-table}
 abbrev Short : List ℕ → Type 0
 Short p = length p ≤ 13
 
-pair-short : (kv : ℕ × ℤ) → kv .0 < 10 → Short (pairText kv)
+pub pair-short : (kv : ℕ × ℤ) → kv .0 < 10 → Short (pairText kv)
 unfolding pairText
 pair-short kv h = omega (arith, length-append (natural (kv .0)) (colon ∷ whole (kv .1)), digit-length (kv .0) h, whole-length (kv .1))
 
-keys-below : (K i : ℕ) (es : List Entry) → i + length es ≤ K → Every (λ (kv : ℕ × ℤ). kv .0 < K) (pairs i es)
+pub keys-below : (K i : ℕ) (es : List Entry) → i + length es ≤ K → Every (λ (kv : ℕ × ℤ). kv .0 < K) (pairs i es)
 unfolding pairs
 keys-below K i [] h = tt
 keys-below K i (Absent ∷ es) h = keys-below K (suc i) es (omega arith)
 keys-below K i (Number z ∷ es) h = (omega arith, keys-below K (suc i) es (omega arith))
 
-pairs-most : (i : ℕ) (es : List Entry) → length (pairs i es) ≤ length es
+pub pairs-most : (i : ℕ) (es : List Entry) → length (pairs i es) ≤ length es
 unfolding pairs
 pairs-most i [] = omega arith
 pairs-most i (Absent ∷ es) = omega (arith, pairs-most (suc i) es)
@@ -52,7 +52,7 @@ line-short K l es h =
 -- ---- Lines
 
 -- lines that are written of things that P holds of, each with its line feed of at most so many bytes
-unlines-short : {A : Type 0} (g : A → List ℕ) (P : A → Type 0) (most : ℕ) → ((x : A) → P x → length (g x) < most)
+pub unlines-short : {A : Type 0} (g : A → List ℕ) (P : A → Type 0) (most : ℕ) → ((x : A) → P x → length (g x) < most)
     → (xs : List A) → Every P xs → length (unlines (map g xs)) ≤ most * length xs
 unfolding unlines
 unlines-short g P most short [] h = omega arith

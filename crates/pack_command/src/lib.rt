@@ -24,7 +24,7 @@ const N_ROOM: u64 = 4294967296;
 // n is kept as what it lies above the least number.
 const ABOVE: i64 = 2147483648;
 
-fn number_of(op: Op) -> u64
+pub fn number_of(op: Op) -> u64
     ensures { λ r. ⌜ (r ≡ placeOf op) × (r < 15) ⌝ }
 {
     match op {
@@ -46,7 +46,7 @@ fn number_of(op: Op) -> u64
     }
 }
 
-fn op_at(n: u64) -> Op
+pub fn op_at(n: u64) -> Op
     ensures { λ r. ⌜ ((op : Op) → n ≡ placeOf op → r ≡ op) ⌝ }
 {
     match n {

@@ -1,2 +1,3 @@
 -- The laws of a whole sheet.
 pub mod Laws
+pub mod Answers

@@ -1,4 +1,5 @@
 // A whole sheet: the job that it says, or the refusal that comes first.
+use model::FORM_NUMBER;
 use model::Form;
 use model::KEY_CAPACITY;
 use model::KeySlot;
@@ -112,7 +113,7 @@ fn read_lines(s: &[u8]) -> Read
     requires { ⌜ length (now s) ≤ mostBytes ⌝ }
     ensures { λ r. ⌜ Answers (readLines (lines (now (s .entry)))) r ⌝ }
 {
-    let first = number_line(s, b"sheet=", 1, 1);
+    let first = number_line(s, b"sheet=", FORM_NUMBER, 1);
     let phase = first.phase;
     match phase {
         Phase::Refused(number, line) => refuse(number, line),

@@ -24,8 +24,9 @@ use Rattle.run_message.proofs.Laws.{cleared-held}
 use Rattle.run_verdict.specs.Verdict.{CountsFit, countsAs}
 use Rattle.model.specs.Placed.{placed}
 use Rattle.model.proofs.Placed.{placed-nil, placed-append, placed-length, placed-front}
+use Rattle.model.proofs.Ready.{Ready, few, keys-count, lines-count, program-count}
 use Rattle.run_job.specs.{Held.Held, Held.recordOf, Held.processOf, Held.stateOf, Turn.Turned, Turn.lettersLeft, Turn.foundBefore}
-use Rattle.run_job.proofs.Views.{Ready, few, keys-count, program-count, lines-count, letters-go-on, letters-end}
+use Rattle.run_job.proofs.Views.{letters-go-on, letters-end}
 use Rattle.run_job.proofs.Turn.{commandOf, process-is, command-here}
 
 bytes-append : (xs ys : List Sent) → bytesOf (xs ++ ys) ≡ bytesOf xs ++ bytesOf ys

@@ -25,10 +25,11 @@ use Rattle.run_message.proofs.Laws.{held-set, held-same}
 use Rattle.model.specs.Placed.{placed}
 use Rattle.write_line.specs.Line.{columnsIn, lineOf}
 use Rattle.model.proofs.Placed.{placed-nil}
+use Rattle.model.proofs.Ready.{Ready, keys-count, lines-count, program-count}
 use Rattle.write_line.proofs.Laws.{held-at}
 use Rattle.run_job.specs.{Held.Held, Held.recordOf, Held.withRecord, Held.withMessage, Held.withKinds, Held.withTaken, Held.withBytes, Held.withClock, Held.processOf}
 use Rattle.run_job.specs.{Held.stateOf, Turn.Turned}
-use Rattle.run_job.proofs.Views.{commandAt, Ready, keys-count, program-count, lines-count, command-is, operands-at, received-is}
+use Rattle.run_job.proofs.Views.{commandAt, command-is, operands-at, received-is}
 
 columns-same : (i : ℕ) (ks : List Key) (f g : Level → List Entry) → ((l : Level) → f l ≡ g l) → columns i ks f ≡ columns i ks g
 unfolding columns

@@ -7,7 +7,7 @@ use read_blocks::Translated;
 use read_blocks::read_blocks;
 use write_commands::put_commands;
 ghost use mathlib.Core.Path.{_≡_};
-ghost use Rattle.model.specs.Written.{written, untouched};
+ghost use Rattle.model.specs.Written.{written};
 ghost use Rattle.model_blocks.specs.Dialect.{writeBlocks};
 
 // Too many commands, or too little memory for their lines.
@@ -40,11 +40,11 @@ pub fn write_blocks(text: &[u8], keys: u32, output: &mut [u8]) -> TextAnswer
             }
             let commands = unpack_all(held, count);
             let mut nowhere = [0u8; 0];
-            let n = put_commands(&mut nowhere, commands, count);
+            let n = put_commands(&mut nowhere, 0, commands, count);
             if output.len() < n {
                 return no_room();
             }
-            put_commands(output, commands, count);
+            put_commands(output, 0, commands, count);
             TextAnswer {
                 number: 0,
                 line: 0,

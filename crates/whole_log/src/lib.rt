@@ -25,7 +25,7 @@ pub fn write_log(log: &[u8], output: &mut [u8]) -> TextAnswer
             let messages = r.messages;
             let count = r.count;
             let mut nowhere = [0u8; 0];
-            let n = put_messages(&mut nowhere, messages, count, LOG_KEYS);
+            let n = put_messages(&mut nowhere, 0, messages, count, LOG_KEYS);
             if output.len() < n {
                 return TextAnswer {
                     number: 43,
@@ -33,7 +33,7 @@ pub fn write_log(log: &[u8], output: &mut [u8]) -> TextAnswer
                     bytes: 0,
                 };
             }
-            put_messages(output, messages, count, LOG_KEYS);
+            put_messages(output, 0, messages, count, LOG_KEYS);
             TextAnswer {
                 number: 0,
                 line: 0,

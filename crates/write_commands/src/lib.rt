@@ -151,12 +151,17 @@ fn put_command(out: &mut [u8], at: usize, c: Command) -> usize
     put_byte(out, end, b'\n')
 }
 
-// The lines of the first count commands, at the front of the memory.
-pub fn put_commands(out: &mut [u8], commands: [Command; COMMAND_CAPACITY], count: usize) -> usize
-    requires { ⌜ (count ≤ commandCapacity) × Room (now out) 0 (commandLines (take count commands)) ⌝ }
-    ensures { λ r. ⌜ Put (now (out .entry)) 0 (commandLines (take count commands)) (now (out .exit)) r ⌝ }
+// The lines of the first count commands.
+pub fn put_commands(
+    out: &mut [u8],
+    at: usize,
+    commands: [Command; COMMAND_CAPACITY],
+    count: usize,
+) -> usize
+    requires { ⌜ (count ≤ commandCapacity) × Room (now out) at (commandLines (take count commands)) ⌝ }
+    ensures { λ r. ⌜ Put (now (out .entry)) at (commandLines (take count commands)) (now (out .exit)) r ⌝ }
 {
-    let mut next: usize = 0;
+    let mut next = at;
     let mut i: usize = 0;
     while i < count {
         let c = commands[i];

@@ -18,7 +18,7 @@ ghost use Rattle.write_text.specs.Put.{Put, Room};
 ghost use Rattle.write_messages.specs.Messages.{partText, lineText};
 
 // `key:value`
-fn put_pair(out: &mut [u8], at: usize, k: usize, v: i32) -> usize
+pub fn put_pair(out: &mut [u8], at: usize, k: usize, v: i32) -> usize
     requires { ⌜ (k < keyCapacity) × Room (now out) at (pairText (k, v)) ⌝ }
     ensures { λ r. ⌜ Put (now (out .entry)) at (pairText (k, v)) (now (out .exit)) r ⌝ }
 {
@@ -71,17 +71,18 @@ fn put_message(out: &mut [u8], at: usize, line: MessageLine, keys: usize) -> usi
     put_byte(out, end, b'\n')
 }
 
-// The lines of the first count messages, each of so many keys, at the front of the memory.
+// The lines of the first count messages, each of so many keys.
 pub fn put_messages(
     out: &mut [u8],
+    at: usize,
     messages: [MessageLine; MESSAGE_CAPACITY],
     count: usize,
     keys: usize,
 ) -> usize
-    requires { ⌜ (keys ≤ keyCapacity) × (count ≤ messageCapacity) × Room (now out) 0 (messageLines (map (entriesIn keys) (take count messages))) ⌝ }
-    ensures { λ r. ⌜ Put (now (out .entry)) 0 (messageLines (map (entriesIn keys) (take count messages))) (now (out .exit)) r ⌝ }
+    requires { ⌜ (keys ≤ keyCapacity) × (count ≤ messageCapacity) × Room (now out) at (messageLines (map (entriesIn keys) (take count messages))) ⌝ }
+    ensures { λ r. ⌜ Put (now (out .entry)) at (messageLines (map (entriesIn keys) (take count messages))) (now (out .exit)) r ⌝ }
 {
-    let mut next: usize = 0;
+    let mut next = at;
     let mut i: usize = 0;
     while i < count {
         let line = messages[i];

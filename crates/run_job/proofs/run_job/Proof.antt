@@ -17,10 +17,11 @@ use Rattle.model.specs.declared.Ending.the-variants.{Stopped, NoRoom}
 use Rattle.model.specs.declared.Call.the-variants.{Receives, Sends}
 use Rattle.model.specs.declared.Level.the-variants.{Low, High}
 use Rattle.model.proofs.Turn.{calls, clamped}
+use Rattle.model.proofs.Ready.{Ready, few}
 use Rattle.run_step.proofs.Laws.{changedBy}
 use Rattle.run_verdict.specs.Verdict.{countsAs}
 use Rattle.run_job.specs.{Held.Held, Held.recordOf, Held.withTaken, Held.withMessage, Held.withBytes, Turn.Turned}
-use Rattle.run_job.proofs.{Views.commandAt, Views.Ready, Views.few, Views.below-or-first, Views.operands-at, Loop.Kept, Loop.Inv, Loop.begins, Loop.Small}
+use Rattle.run_job.proofs.{Views.commandAt, Views.below-or-first, Views.operands-at, Loop.Kept, Loop.Inv, Loop.begins, Loop.Small}
 use Rattle.run_job.proofs.{Loop.small, Loop.same-length, Loop.counted-small, Loop.counts-fit, Loop.ends}
 use Rattle.run_job.proofs.{Loop.found-used, Loop.found-stopped, Loop.found-by, Loop.again, Loop.short-neither, Loop.short-receives, Loop.short-sends}
 use Rattle.run_job.proofs.{Turn.commanded, Turn.madeBefore, Turn.calledBy, Turn.receive-turn, Turn.send-turn, Turn.command-turn}

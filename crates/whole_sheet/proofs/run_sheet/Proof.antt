@@ -2,7 +2,8 @@
 use mathlib.Core.Path.{_∙_, sym}
 use borrow.Author.Needs.{needs}
 use Rattle.model.proofs.Accepted.{accepted-sound}
-use Rattle.whole_sheet.proofs.Laws.{accepted-left, refused-left, read-accepted, read-refused}
+use Rattle.read_sheet.proofs.Answers.{read-accepted, read-refused}
+use Rattle.whole_sheet.proofs.Laws.{accepted-left, refused-left}
 use Rattle.whole_sheet.proofs.run_sheet.Statement.{statement}
 use Rattle.whole_sheet.proofs.run_sheet.Tie as tie
 

@@ -16,11 +16,11 @@ abbrev linesFrom : ℕ → List Command → ℕ → List ℕ
 linesFrom count commands i = commandLines (drop i (take count commands))
 
 abbrev Inv-loop : tie.InvT-loop
-Inv-loop out₀ count commands next₀ i₀ out next i =
-    (length out ≡ length out₀) × (i ≤ count) × Putting out₀ 0 (linesFrom count commands 0) out next (linesFrom count commands i)
+Inv-loop out₀ at count commands next₀ i₀ out next i =
+    (length out ≡ length out₀) × (i ≤ count) × Putting out₀ at (linesFrom count commands 0) out next (linesFrom count commands i)
 
 abbrev μ-loop : tie.MeasureT-loop
-μ-loop out₀ count commands next₀ i₀ out next i = count - i
+μ-loop out₀ at count commands next₀ i₀ out next i = count - i
 
 -- the points of the code: a turn's start, and the start
 abbrev turnOf : tie.After-put-command-arg Inv-loop μ-loop → tie.At-loop Inv-loop μ-loop
@@ -31,19 +31,19 @@ startOf c = c .before .before
 
 -- a line, those behind it, and that they are what is left
 abbrev line : tie.After-put-command-arg Inv-loop μ-loop → List ℕ
-line c = let l = turnOf c in commandLines (getD (startOf l .args .t2) (l .loop .i) (blank Set) ∷ [])
+line c = let l = turnOf c in commandLines (getD (startOf l .args .t3) (l .loop .i) (blank Set) ∷ [])
 
 abbrev others : tie.After-put-command-arg Inv-loop μ-loop → List ℕ
-others c = let l = turnOf c in linesFrom (startOf l .args .count) (startOf l .args .t2) (l .loop .i + 1)
+others c = let l = turnOf c in linesFrom (startOf l .args .count) (startOf l .args .t3) (l .loop .i + 1)
 
 rest : (c : tie.After-put-command-arg Inv-loop μ-loop) →
     let l = turnOf c in
     let a = startOf l .args in
-    Putting (a .out .now) 0 (linesFrom (a .count) (a .t2) 0) (l .loop .out) (l .loop .next) (line c ++ others c)
+    Putting (a .out .now) (a .at) (linesFrom (a .count) (a .t3) 0) (l .loop .out) (l .loop .next) (line c ++ others c)
 rest c =
     let l = turnOf c in
     let a = startOf l .args in
-    rw (commands-more (a .t2) (a .count) (omega arith) (l .loop .i) (omega arith)) at (l .loop .inv .2)
+    rw (commands-more (a .t3) (a .count) (omega arith) (l .loop .i) (omega arith)) at (l .loop .inv .2)
 
 put-command-requires : tie.Need-put-command-requires Inv-loop μ-loop
 put-command-requires c κs = putting-room (line c) (others c) (startOf (turnOf c) .pre .1) (turnOf c .loop .inv .0) (rest c)
@@ -57,7 +57,7 @@ returns : tie.Need-returns Inv-loop μ-loop
 returns c =
     let l = c .before in
     let a = startOf l .args in
-    putting-ends (commands-end (a .t2) (a .count) (omega arith) (l .loop .i) (omega arith)) (l .loop .inv .2)
+    putting-ends (commands-end (a .t3) (a .count) (omega arith) (l .loop .i) (omega arith)) (l .loop .inv .2)
 
 pub put-commands-spec : {M : Type 1} → statement M
 put-commands-spec =

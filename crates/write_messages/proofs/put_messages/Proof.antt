@@ -17,27 +17,27 @@ abbrev linesFrom : ℕ → ℕ → List MessageLine → ℕ → List ℕ
 linesFrom keys count messages i = messageLines (drop i (map (entriesIn keys) (take count messages)))
 
 abbrev Inv-loop : tie.InvT-loop
-Inv-loop out₀ count keys messages next₀ i₀ out next i =
-    (length out ≡ length out₀) × (i ≤ count) × Putting out₀ 0 (linesFrom keys count messages 0) out next (linesFrom keys count messages i)
+Inv-loop out₀ at count keys messages next₀ i₀ out next i =
+    (length out ≡ length out₀) × (i ≤ count) × Putting out₀ at (linesFrom keys count messages 0) out next (linesFrom keys count messages i)
 
 abbrev μ-loop : tie.MeasureT-loop
-μ-loop out₀ count keys messages next₀ i₀ out next i = count - i
+μ-loop out₀ at count keys messages next₀ i₀ out next i = count - i
 
 -- a line, those behind it, and that they are what is left
 abbrev line : tie.After-put-message-arg Inv-loop μ-loop → List ℕ
-line c = let a = c .before .before .before .before .before .args in lineText (entriesIn (a .keys) (getD (a .t2) (c .before .before .before .loop .i) noLine))
+line c = let a = c .before .before .before .before .before .args in lineText (entriesIn (a .keys) (getD (a .t3) (c .before .before .before .loop .i) noLine))
 
 abbrev others : tie.After-put-message-arg Inv-loop μ-loop → List ℕ
-others c = let a = c .before .before .before .before .before .args in linesFrom (a .keys) (a .count) (a .t2) (c .before .before .before .loop .i + 1)
+others c = let a = c .before .before .before .before .before .args in linesFrom (a .keys) (a .count) (a .t3) (c .before .before .before .loop .i + 1)
 
 rest : (c : tie.After-put-message-arg Inv-loop μ-loop) →
     let l = c .before .before .before in
     let a = l .before .before .args in
-    Putting (a .out .now) 0 (linesFrom (a .keys) (a .count) (a .t2) 0) (l .loop .out) (l .loop .next) (line c ++ others c)
+    Putting (a .out .now) (a .at) (linesFrom (a .keys) (a .count) (a .t3) 0) (l .loop .out) (l .loop .next) (line c ++ others c)
 rest c =
     let l = c .before .before .before in
     let a = l .before .before .args in
-    rw (lines-more (a .keys) (a .t2) (a .count) (omega arith) (l .loop .i) (omega arith)) at (l .loop .inv .2)
+    rw (lines-more (a .keys) (a .t3) (a .count) (omega arith) (l .loop .i) (omega arith)) at (l .loop .inv .2)
 
 put-message-requires : tie.Need-put-message-requires Inv-loop μ-loop
 put-message-requires c κs = let s = c .before .before .before .before .before in (s .pre .0, putting-room (line c) (others c) (s .pre .2) (c .before .before .before .loop .inv .0) (rest c))
@@ -51,7 +51,7 @@ returns : tie.Need-returns Inv-loop μ-loop
 returns c =
     let l = c .before in
     let a = l .before .before .args in
-    putting-ends (lines-end (a .keys) (a .t2) (a .count) (omega arith) (l .loop .i) (omega arith)) (l .loop .inv .2)
+    putting-ends (lines-end (a .keys) (a .t3) (a .count) (omega arith) (l .loop .i) (omega arith)) (l .loop .inv .2)
 
 pub put-messages-spec : {M : Type 1} → statement M
 put-messages-spec =
