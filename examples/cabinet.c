@@ -66,6 +66,15 @@ static void print_numbers(const struct pavebox_answer *numbers)
     printf("clamped results %lu\n", (unsigned long)numbers->clamped);
 }
 
+/* Prints the sent lines and the numbers. Returns 0 if that is not possible. */
+static int print_answer(const struct pavebox_answer *numbers)
+{
+    if (fwrite(output, 1, numbers->written, stdout) != numbers->written)
+        return 0;
+    print_numbers(numbers);
+    return fflush(stdout) == 0 && !ferror(stdout);
+}
+
 int main(int count, char **arguments)
 {
     struct pavebox_answer numbers;
@@ -81,9 +90,7 @@ int main(int count, char **arguments)
     }
     ending = pavebox_run(sheet, length, output, OUTPUT_BYTES, answer, PAVEBOX_ANSWER_BYTES);
     numbers = pavebox_read_answer(answer);
-    fwrite(output, 1, numbers.written, stdout);
-    print_numbers(&numbers);
-    if (fflush(stdout) != 0) {
+    if (!print_answer(&numbers)) {
         perror("cabinet");
         return 2;
     }

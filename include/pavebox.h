@@ -1,8 +1,8 @@
 /*
  * The confidential run of one sheet: two executions, one message; the msg lines of a sheet out of the
- * export of a belt log; and its do lines out of a program with blocks. Link with libpavebox.a. Where
- * read-only memory is short, link with -Wl,--gc-sections: then only what the called entries need is
- * kept.
+ * export of a belt log; its do lines out of a program with blocks; and a sheet opened as a record and
+ * saved from one. Link with libpavebox.a. Where read-only memory is short, link with
+ * -Wl,--gc-sections: then only what the called entries need is kept.
  */
 #ifndef PAVEBOX_H
 #define PAVEBOX_H
@@ -39,7 +39,8 @@ extern "C" {
 #define PAVEBOX_BAD_TARGET 7u     /* a target that exceeds the count of commands */
 #define PAVEBOX_TOO_MANY 8u       /* a 65th command, a 33rd message, a 1,025th byte of turns */
 #define PAVEBOX_BAD_TURNS 9u      /* no turn, or a letter other than L and H */
-#define PAVEBOX_BAD_ANSWER 10u    /* the answer memory is not exactly 28 bytes */
+#define PAVEBOX_BAD_ANSWER 10u    /* the answer memory has another length than the entry's answer
+                                     takes */
 
 /*
  * Reads the sheet and runs it to its ending.
@@ -77,7 +78,8 @@ static inline uint32_t pavebox_read_number(const uint8_t *bytes)
            | (uint32_t)bytes[3] << 24;
 }
 
-/* The seven numbers from the 28 bytes that pavebox_run has filled. */
+/* The seven numbers from the 28 bytes that pavebox_run has filled. It is of pavebox_run alone: each
+ * other entry has a shorter answer, and a function of its own for it. */
 static inline struct pavebox_answer pavebox_read_answer(const uint8_t *answer)
 {
     struct pavebox_answer numbers;
@@ -98,7 +100,8 @@ static inline struct pavebox_answer pavebox_read_answer(const uint8_t *answer)
  * PAVEBOX_NO_ROOM_FOR_LINES never occurs. */
 #define PAVEBOX_MOST_CSV_OUTPUT_BYTES 3712u
 
-/* The export was accepted, or the program, and its lines are in the output memory. */
+/* The export was accepted, or the program, and its lines are in the output memory; or the record, and
+ * its sheet is there. */
 #define PAVEBOX_WRITTEN 0u
 
 /* Refusals of an export: the output memory is untouched. PAVEBOX_TOO_MANY (a 33rd message) and
@@ -194,6 +197,181 @@ static inline struct pavebox_blocks_answer pavebox_read_blocks_answer(const uint
     numbers.number = pavebox_read_number(answer);
     numbers.line = pavebox_read_number(answer + 4);
     numbers.written = pavebox_read_number(answer + 8);
+    return numbers;
+}
+
+/*
+ * A job as a record: what the lines of a sheet say, as plain numbers, for a screen that shows and
+ * changes them. pavebox_read makes it of a sheet, and pavebox_write makes a sheet of it.
+ *
+ * The counts say how much of it there is. Beyond them anything may stand: it is neither tested nor
+ * written, and reading a sheet keeps it as it was. Within them every number that a sheet has a limit
+ * for has the same limit here, an operand that a command's word lacks is 0, and so is the owner of a
+ * secret in form 1. So a record says nothing that its sheet does not say, and an accepted sheet is
+ * the only one of its record.
+ *
+ * The record has places for later forms of sheets, with more keys and commands than form 1 allows and
+ * with owners of secrets. Its layout does not change with them. It has no padding.
+ */
+#define PAVEBOX_KEY_PLACES 16u      /* secrets, and entries of a message; form 1: at most K, 1 to 8 */
+#define PAVEBOX_COMMAND_PLACES 256u /* form 1: 1 to 64 */
+#define PAVEBOX_MESSAGE_PLACES 32u  /* none or more */
+#define PAVEBOX_LETTER_PLACES 1024u /* 1 or more */
+#define PAVEBOX_JOB_BYTES 11608u
+
+/* The words of commands, and which of the operands v, w, k, t and n each has. */
+#define PAVEBOX_WORD_SET 0u      /* v n */
+#define PAVEBOX_WORD_ADD 1u      /* v w */
+#define PAVEBOX_WORD_SUB 2u      /* v w */
+#define PAVEBOX_WORD_MUL 3u      /* v w */
+#define PAVEBOX_WORD_DIV 4u      /* v w */
+#define PAVEBOX_WORD_READ 5u     /* v k */
+#define PAVEBOX_WORD_HAS 6u      /* v k */
+#define PAVEBOX_WORD_PUT 7u      /* k v */
+#define PAVEBOX_WORD_DROP 8u     /* k */
+#define PAVEBOX_WORD_IFNEG 9u    /* v t */
+#define PAVEBOX_WORD_IFZERO 10u  /* v t */
+#define PAVEBOX_WORD_JUMP 11u    /* t */
+#define PAVEBOX_WORD_RECEIVE 12u /* none */
+#define PAVEBOX_WORD_SEND 13u    /* none */
+#define PAVEBOX_WORD_STOP 14u    /* none */
+
+/* A line secret=key:dummy. */
+struct pavebox_secret {
+    uint32_t key;   /* below K, and greater than that of the secret before it */
+    int32_t dummy;  /* any number */
+    uint32_t owner; /* 0 */
+};
+
+/* A line do=command. An operand that the word lacks is 0. */
+struct pavebox_command {
+    uint32_t word; /* as above */
+    uint32_t v, w; /* variables, at most 7 */
+    uint32_t k;    /* a key, below K */
+    uint32_t t;    /* a target, at most the count of commands */
+    int32_t n;     /* any number */
+};
+
+/* A part key:value of a line msg. */
+struct pavebox_entry {
+    uint32_t key;  /* below K, and greater than that of the entry before it */
+    int32_t value; /* any number */
+};
+
+/* A line msg, with one entry for each of its parts. */
+struct pavebox_message {
+    uint32_t entry_count; /* at most K */
+    struct pavebox_entry entries[PAVEBOX_KEY_PLACES];
+};
+
+struct pavebox_job {
+    uint32_t form; /* the number behind sheet=, which is 1 */
+    uint32_t keys; /* K, the number behind keys= */
+    uint32_t secret_count;
+    struct pavebox_secret secrets[PAVEBOX_KEY_PLACES];
+    uint32_t command_count;
+    struct pavebox_command commands[PAVEBOX_COMMAND_PLACES];
+    uint32_t message_count;
+    struct pavebox_message messages[PAVEBOX_MESSAGE_PLACES];
+    uint32_t letter_count;
+    uint8_t letters[PAVEBOX_LETTER_PLACES]; /* the bytes 'L' and 'H' behind turns= */
+};
+
+/* Does not compile where the record has another size. */
+typedef char pavebox_job_size_check[sizeof(struct pavebox_job) == PAVEBOX_JOB_BYTES ? 1 : -1];
+
+/* The answer memory of pavebox_write has exactly this many bytes. */
+#define PAVEBOX_WRITE_ANSWER_BYTES 8u
+
+/* No sheet that is written is longer. With this much output memory, or more,
+ * PAVEBOX_NO_ROOM_FOR_SHEET never occurs. */
+#define PAVEBOX_MOST_WRITE_OUTPUT_BYTES 6270u
+
+/* Refusals of a record: the output memory is untouched. PAVEBOX_BAD_ANSWER (the answer memory is not
+ * exactly 8 bytes) is a further one. Success is PAVEBOX_WRITTEN. */
+#define PAVEBOX_BAD_RECORD 54u        /* a number or count outside its limits, an operand or owner that
+                                         should be 0, keys that do not rise, a letter other than L
+                                         and H, or a target that exceeds the count of commands */
+#define PAVEBOX_NO_ROOM_FOR_SHEET 55u /* the output memory is shorter than the sheet */
+
+/*
+ * Writes the sheet of a record.
+ *
+ * job                 the record, which is only read. Any numbers will do.
+ * output, output_len  the output memory. The sheet goes to its start; behind it, and everywhere if
+ *                     the record is refused, it keeps its bytes.
+ * answer, answer_len  the answer memory: 8 bytes for two numbers, see pavebox_read_write_answer.
+ *
+ * Returns PAVEBOX_WRITTEN or the refusal, which is also the first of the two numbers. If answer_len
+ * is not 8 it returns PAVEBOX_BAD_ANSWER and writes nothing.
+ *
+ * Reading what was written gives the same record in all that its counts cover. Some 18 KB of stack are
+ * used.
+ *
+ * The caller's duties for both ranges are those of pavebox_run: each pointer is to that many bytes,
+ * with a length of 0 it may be NULL, and alignment does not matter. job is never NULL and points to a
+ * whole record, aligned to 4 bytes, each byte of which has been set, those beyond the counts too; it
+ * does not overlap the ranges.
+ */
+uint32_t pavebox_write(const struct pavebox_job *job,
+                       uint8_t *output, size_t output_len,
+                       uint8_t *answer, size_t answer_len);
+
+/* The two numbers of an answer of pavebox_write. */
+struct pavebox_write_answer {
+    uint32_t number;  /* PAVEBOX_WRITTEN or a refusal, as above */
+    uint32_t written; /* bytes of the sheet at the start of the output memory */
+};
+
+/* The two numbers from the 8 bytes that pavebox_write has filled. */
+static inline struct pavebox_write_answer pavebox_read_write_answer(const uint8_t *answer)
+{
+    struct pavebox_write_answer numbers;
+    numbers.number = pavebox_read_number(answer);
+    numbers.written = pavebox_read_number(answer + 4);
+    return numbers;
+}
+
+/* The answer memory of pavebox_read has exactly this many bytes. */
+#define PAVEBOX_JOB_ANSWER_BYTES 8u
+
+/* The sheet was accepted, and its record is there. */
+#define PAVEBOX_ACCEPTED 0u
+
+/*
+ * Reads a sheet into a record.
+ *
+ * sheet, sheet_len    the sheet's bytes, which are only read. Any bytes will do.
+ * job                 the record. What its new counts do not cover keeps its bytes: places beyond a
+ *                     count, and in a message the entries beyond its own. If the sheet is refused,
+ *                     the whole record does.
+ * answer, answer_len  the answer memory: 8 bytes for two numbers, see pavebox_read_job_answer.
+ *
+ * Returns PAVEBOX_ACCEPTED or the refusal, which is also the first of the two numbers; it and the
+ * line are those that pavebox_run gives for the sheet. If answer_len is not 8 it returns
+ * PAVEBOX_BAD_ANSWER and writes nothing, neither there nor in the record.
+ *
+ * Writing the record gives the bytes of the sheet. Some 40 KB of stack are used.
+ *
+ * The caller's duties are those of pavebox_write. So before a record is read into for the first time
+ * its bytes are set, to anything.
+ */
+uint32_t pavebox_read(const uint8_t *sheet, size_t sheet_len,
+                      struct pavebox_job *job,
+                      uint8_t *answer, size_t answer_len);
+
+/* The two numbers of an answer of pavebox_read. */
+struct pavebox_job_answer {
+    uint32_t number; /* PAVEBOX_ACCEPTED or a refusal of the sheet */
+    uint32_t line;   /* the line that is refused, from 1; 0 if there is none */
+};
+
+/* The two numbers from the 8 bytes that pavebox_read has filled. */
+static inline struct pavebox_job_answer pavebox_read_job_answer(const uint8_t *answer)
+{
+    struct pavebox_job_answer numbers;
+    numbers.number = pavebox_read_number(answer);
+    numbers.line = pavebox_read_number(answer + 4);
     return numbers;
 }
 

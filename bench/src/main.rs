@@ -5,9 +5,12 @@ mod logs;
 mod plain;
 mod plain_blocks;
 mod plain_log;
+mod plain_record;
+mod records;
 mod sheets;
 mod timing;
 
+use records::{record_in, record_in_mut};
 use sheets::Group;
 use std::hint::black_box;
 use std::path::Path;
@@ -46,6 +49,21 @@ const BLOCKS: Sides<3> = Sides {
     plain: |program, output| plain_blocks::blocks(program, blocks::KEYS, output),
 };
 
+/// Saving a record as a sheet.
+const SAVE: Sides<2> = Sides {
+    archive: |record, output| pavebox::write(record_in(record), output).numbers(),
+    plain: |record, output| plain_record::save(record_in(record), output),
+};
+
+/// Opening a sheet as a record, which is at the start of the output memory.
+const OPEN: Sides<2> = Sides {
+    archive: |sheet, output| pavebox::read(sheet, record_in_mut(output)).numbers(),
+    plain: |sheet, output| {
+        plain_record::open(sheet, record_in_mut(output))
+            .expect("the sheets of the comparison are accepted")
+    },
+};
+
 fn main() -> ExitCode {
     let words: Vec<String> = std::env::args().skip(1).collect();
     let words: Vec<&str> = words.iter().map(String::as_str).collect();
@@ -66,7 +84,8 @@ fn main() -> ExitCode {
 }
 
 fn usage() -> String {
-    "usage: bench\n       bench archive|plain COUNT [all|long|short|largest|LH|all L|random|runs|calls|log|blocks]\n       \
+    "usage: bench\n       bench archive|plain COUNT \
+     [all|long|short|largest|LH|all L|random|runs|calls|log|blocks|saved|opened]\n       \
      bench texts FOLDER"
         .to_string()
 }
@@ -76,12 +95,15 @@ fn compare_and_time() -> Result<(), String> {
     let kinds = sheets::kinds();
     let logs = [logs::full()];
     let blocks = [blocks::full()];
+    let (saved, opened) = ([records::saved()], [records::opened()]);
     for group in halves.iter().chain(&kinds).chain([&sheets::largest()]) {
         compare(&RUN, group)?;
     }
     compare(&CSV, &logs[0])?;
     compare(&BLOCKS, &blocks[0])?;
-    println!("archive and plain agree on all sheets, exports and programs with blocks");
+    compare(&SAVE, &saved[0])?;
+    compare(&OPEN, &opened[0])?;
+    println!("archive and plain agree on all sheets, exports, programs with blocks and records");
     let of_halves = [Row("all", &[0, 1]), Row("long", &[0]), Row("short", &[1])];
     print!("{}", timing::report(&RUN, &halves, &of_halves));
     println!("long runs, by the kind of their turns:");
@@ -100,6 +122,9 @@ fn compare_and_time() -> Result<(), String> {
         "{}",
         timing::report(&BLOCKS, &blocks, &[Row("blocks", &[0])])
     );
+    println!("full records, saved as sheets and opened from them:");
+    print!("{}", timing::report(&SAVE, &saved, &[Row("saved", &[0])]));
+    print!("{}", timing::report(&OPEN, &opened, &[Row("opened", &[0])]));
     Ok(())
 }
 
@@ -127,6 +152,8 @@ fn run_one(side: &str, count: &str, name: &str) -> Result<(), String> {
         "largest" => vec![sheets::largest()],
         "log" => vec![logs::full()],
         "blocks" => vec![blocks::full()],
+        "saved" => vec![records::saved()],
+        "opened" => vec![records::opened()],
         kind => of_kind(kind)?,
     };
     match (name, side) {
@@ -134,6 +161,10 @@ fn run_one(side: &str, count: &str, name: &str) -> Result<(), String> {
         ("log", _) => passes(CSV.plain, count, &groups),
         ("blocks", "archive") => passes(BLOCKS.archive, count, &groups),
         ("blocks", _) => passes(BLOCKS.plain, count, &groups),
+        ("saved", "archive") => passes(SAVE.archive, count, &groups),
+        ("saved", _) => passes(SAVE.plain, count, &groups),
+        ("opened", "archive") => passes(OPEN.archive, count, &groups),
+        ("opened", _) => passes(OPEN.plain, count, &groups),
         (_, "archive") => passes(RUN.archive, count, &groups),
         _ => passes(RUN.plain, count, &groups),
     }
@@ -171,11 +202,16 @@ fn pass<const N: usize>(side: Side<N>, group: &Group, output: &mut [u8]) {
     }
 }
 
-/// Writes each text to a file of its own: sheets `.txt`, exports `.csv`, programs `.blocks`.
+/// Writes each text to a file of its own: sheets `.txt`, exports `.csv`, programs `.blocks`, the sheets
+/// of records `.record`.
 fn write_texts(folder: &str) -> Result<(), String> {
     let sheets = [sheets::long(), sheets::short(), sheets::largest()];
     let sheets = sheets.map(|group| (group, "txt"));
-    let others = [(logs::full(), "csv"), (blocks::full(), "blocks")];
+    let others = [
+        (logs::full(), "csv"),
+        (blocks::full(), "blocks"),
+        (records::opened(), "record"),
+    ];
     for (group, suffix) in sheets.into_iter().chain(others) {
         for (place, text) in group.texts.iter().enumerate() {
             let file = Path::new(folder).join(format!("{}_{place:03}.{suffix}", group.name));

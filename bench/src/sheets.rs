@@ -14,7 +14,7 @@ const OF_A_KIND: usize = 50;
 /// A long run uses at least this many positions.
 const LONG_POSITIONS: u32 = 1_000;
 
-/// Some sheets, and what their runs come to; or some exports or programs, which have no positions.
+/// Some sheets, and what their runs come to; or some exports, programs or records, which have no positions.
 pub struct Group {
     pub name: &'static str,
     pub texts: Vec<Vec<u8>>,

@@ -29,6 +29,22 @@
 //! assert_eq!((answer.number, answer.written), (pavebox::WRITTEN, 44));
 //! assert_eq!(&output[..44], b"do=receive\ndo=has 0 0\ndo=ifzero 0 4\ndo=send\n");
 //! ```
+//!
+//! [`read`] opens a sheet as a record of plain numbers, a [`Job`], and [`write`] saves a record as a
+//! sheet:
+//!
+//! ```
+//! let sheet = b"sheet=1\nkeys=1\ndo=receive\ndo=send\nmsg=0:7\nturns=LL\n";
+//! let mut job = pavebox::Job::default();
+//! assert_eq!(pavebox::read(sheet, &mut job).number, pavebox::ACCEPTED);
+//! job.messages[0].entries[0].value = -40;
+//! let mut output = [0; pavebox::MOST_WRITE_OUTPUT_BYTES];
+//! let answer = pavebox::write(&job, &mut output);
+//! assert_eq!((answer.number, answer.written), (pavebox::WRITTEN, 53));
+//! assert_eq!(&output[34..53], b"msg=0:-40\nturns=LL\n");
+//! ```
+
+use std::mem::{align_of, offset_of, size_of};
 
 /// The bytes of an answer.
 pub const ANSWER_BYTES: usize = 28;
@@ -39,8 +55,9 @@ pub const LETTERS_USED: u32 = 31;
 /// The ending of a run whose output memory has no room for the next line.
 pub const NO_ROOM: u32 = 32;
 /// What [`entry`] returns if the answer memory is not exactly [`ANSWER_BYTES`] long, [`csv_entry`] if
-/// it is not exactly [`CSV_ANSWER_BYTES`] long, and [`blocks_entry`] if it is not exactly
-/// [`BLOCKS_ANSWER_BYTES`] long.
+/// it is not exactly [`CSV_ANSWER_BYTES`] long, [`blocks_entry`] if it is not exactly
+/// [`BLOCKS_ANSWER_BYTES`] long, [`write_entry`] if it is not exactly [`WRITE_ANSWER_BYTES`] long, and
+/// [`read_entry`] if it is not exactly [`READ_ANSWER_BYTES`] long.
 pub const BAD_ANSWER: u32 = 10;
 
 /// The bytes of an answer of [`csv_entry`].
@@ -48,7 +65,8 @@ pub const CSV_ANSWER_BYTES: usize = 12;
 /// No export gives more bytes of lines. With so much output memory [`NO_ROOM_FOR_LINES`] never
 /// occurs.
 pub const MOST_CSV_OUTPUT_BYTES: usize = 3_712;
-/// The number of an export, or of a program with blocks, whose lines are in the output memory.
+/// The number of an export, or of a program with blocks, whose lines are in the output memory, and of a
+/// record whose sheet is there.
 pub const WRITTEN: u32 = 0;
 /// The refusal of an export with a 33rd message.
 pub const TOO_MANY: u32 = 8;
@@ -80,7 +98,65 @@ pub const TOO_DEEP: u32 = 52;
 /// memory.
 pub const NO_ROOM_FOR_COMMANDS: u32 = 53;
 
+/// The places of a [`Job`] for secrets, and of a [`Message`] for entries. In a sheet of form 1 there are at
+/// most as many of each as keys, 1 to 8.
+pub const KEY_PLACES: usize = 16;
+/// The places of a [`Job`] for commands, of which a sheet of form 1 has 1 to 64.
+pub const COMMAND_PLACES: usize = 256;
+/// The places of a [`Job`] for messages, of which a sheet has none or more.
+pub const MESSAGE_PLACES: usize = 32;
+/// The places of a [`Job`] for letters, of which a sheet has 1 or more.
+pub const LETTER_PLACES: usize = 1_024;
+/// The bytes of a [`Job`].
+pub const JOB_BYTES: usize = 11_608;
+/// The word of `set v n`.
+pub const WORD_SET: u32 = 0;
+/// The word of `add v w`.
+pub const WORD_ADD: u32 = 1;
+/// The word of `sub v w`.
+pub const WORD_SUB: u32 = 2;
+/// The word of `mul v w`.
+pub const WORD_MUL: u32 = 3;
+/// The word of `div v w`.
+pub const WORD_DIV: u32 = 4;
+/// The word of `read v k`.
+pub const WORD_READ: u32 = 5;
+/// The word of `has v k`.
+pub const WORD_HAS: u32 = 6;
+/// The word of `put k v`.
+pub const WORD_PUT: u32 = 7;
+/// The word of `drop k`.
+pub const WORD_DROP: u32 = 8;
+/// The word of `ifneg v t`.
+pub const WORD_IFNEG: u32 = 9;
+/// The word of `ifzero v t`.
+pub const WORD_IFZERO: u32 = 10;
+/// The word of `jump t`.
+pub const WORD_JUMP: u32 = 11;
+/// The word of `receive`.
+pub const WORD_RECEIVE: u32 = 12;
+/// The word of `send`.
+pub const WORD_SEND: u32 = 13;
+/// The word of `stop`.
+pub const WORD_STOP: u32 = 14;
+/// The bytes of an answer of [`write_entry`].
+pub const WRITE_ANSWER_BYTES: usize = 8;
+/// No record gives a longer sheet. With so much output memory [`NO_ROOM_FOR_SHEET`] never occurs.
+pub const MOST_WRITE_OUTPUT_BYTES: usize = 6_270;
+/// The refusal of a record with a number or count outside its limits, an operand or an owner that must be
+/// 0 and is not, keys that do not rise, a letter other than `L` and `H`, or a target above the count of
+/// commands.
+pub const BAD_RECORD: u32 = 54;
+/// The refusal of a record whose sheet is longer than the output memory.
+pub const NO_ROOM_FOR_SHEET: u32 = 55;
+/// The bytes of an answer of [`read_entry`].
+pub const READ_ANSWER_BYTES: usize = 8;
+/// The number of a sheet that the record holds.
+pub const ACCEPTED: u32 = 0;
+
 mod archive {
+    use super::Job;
+
     /// An entry of the archive: bytes that are read, the output memory and the answer memory.
     pub type Entry = unsafe extern "C" fn(*const u8, usize, *mut u8, usize, *mut u8, usize) -> u32;
 
@@ -109,6 +185,22 @@ mod archive {
             keys: u32,
             output: *mut u8,
             output_len: usize,
+            answer: *mut u8,
+            answer_len: usize,
+        ) -> u32;
+
+        pub fn pavebox_write(
+            job: *const Job,
+            output: *mut u8,
+            output_len: usize,
+            answer: *mut u8,
+            answer_len: usize,
+        ) -> u32;
+
+        pub fn pavebox_read(
+            sheet: *const u8,
+            sheet_len: usize,
+            job: *mut Job,
             answer: *mut u8,
             answer_len: usize,
         ) -> u32;
@@ -218,6 +310,175 @@ impl BlocksAnswer {
     }
 }
 
+/// A secret key of a [`Job`].
+#[repr(C)]
+#[derive(Debug, Clone, Copy, PartialEq, Eq, Default)]
+pub struct Secret {
+    pub key: u32,
+    pub dummy: i32,
+    /// 0 in a sheet of form 1, where secrets have no owner.
+    pub owner: u32,
+}
+
+/// A command of a [`Job`]. An operand that its word lacks is 0.
+#[repr(C)]
+#[derive(Debug, Clone, Copy, PartialEq, Eq, Default)]
+pub struct Command {
+    /// One of [`WORD_SET`] to [`WORD_STOP`], 0 to 14.
+    pub word: u32,
+    pub v: u32,
+    pub w: u32,
+    pub k: u32,
+    pub t: u32,
+    pub n: i32,
+}
+
+/// An entry of a [`Message`].
+#[repr(C)]
+#[derive(Debug, Clone, Copy, PartialEq, Eq, Default)]
+pub struct Entry {
+    pub key: u32,
+    pub value: i32,
+}
+
+/// A message of a [`Job`].
+#[repr(C)]
+#[derive(Debug, Clone, Copy, PartialEq, Eq, Default)]
+pub struct Message {
+    pub entry_count: u32,
+    pub entries: [Entry; KEY_PLACES],
+}
+
+/// A job as a screen holds it: plain numbers, of which a count says how many places are used. What
+/// stands behind them is neither looked at nor changed. Any numbers will do; [`write`] says which are a
+/// job.
+#[repr(C)]
+#[derive(Debug, Clone, PartialEq, Eq)]
+pub struct Job {
+    /// The number behind `sheet=`: 1.
+    pub form: u32,
+    pub keys: u32,
+    pub secret_count: u32,
+    pub secrets: [Secret; KEY_PLACES],
+    pub command_count: u32,
+    pub commands: [Command; COMMAND_PLACES],
+    pub message_count: u32,
+    pub messages: [Message; MESSAGE_PLACES],
+    pub letter_count: u32,
+    /// `L` or `H` each.
+    pub letters: [u8; LETTER_PLACES],
+}
+
+// The layout that a C program has. Nothing but the fields is in it.
+const _: () = {
+    assert!(size_of::<Secret>() == 12 && size_of::<Command>() == 24);
+    assert!(size_of::<Entry>() == 8 && size_of::<Message>() == 132);
+    assert!(offset_of!(Secret, key) == 0 && offset_of!(Secret, dummy) == 4);
+    assert!(offset_of!(Secret, owner) == 8);
+    assert!(offset_of!(Command, word) == 0 && offset_of!(Command, v) == 4);
+    assert!(offset_of!(Command, w) == 8 && offset_of!(Command, k) == 12);
+    assert!(offset_of!(Command, t) == 16 && offset_of!(Command, n) == 20);
+    assert!(offset_of!(Entry, key) == 0 && offset_of!(Entry, value) == 4);
+    assert!(offset_of!(Message, entry_count) == 0 && offset_of!(Message, entries) == 4);
+    assert!(offset_of!(Job, form) == 0 && offset_of!(Job, keys) == 4);
+    assert!(offset_of!(Job, secret_count) == 8 && offset_of!(Job, secrets) == 12);
+    assert!(offset_of!(Job, command_count) == 204 && offset_of!(Job, commands) == 208);
+    assert!(offset_of!(Job, message_count) == 6_352 && offset_of!(Job, messages) == 6_356);
+    assert!(offset_of!(Job, letter_count) == 10_580 && offset_of!(Job, letters) == 10_584);
+    assert!(size_of::<Job>() == JOB_BYTES && align_of::<Job>() == 4);
+};
+
+/// All numbers 0, which is no job yet.
+impl Default for Job {
+    fn default() -> Job {
+        Job {
+            form: 0,
+            keys: 0,
+            secret_count: 0,
+            secrets: Default::default(),
+            command_count: 0,
+            commands: [Command::default(); COMMAND_PLACES],
+            message_count: 0,
+            messages: [Message::default(); MESSAGE_PLACES],
+            letter_count: 0,
+            letters: [0; LETTER_PLACES],
+        }
+    }
+}
+
+impl Job {
+    /// The record that lies in these bytes, as a C program has it. There is none if they are not
+    /// [`JOB_BYTES`], or do not begin at a multiple of 4.
+    pub fn in_bytes(bytes: &[u8]) -> Option<&Job> {
+        let job = bytes.as_ptr().cast::<Job>();
+        // SAFETY: The bytes are as many as a record has, begin where one may begin, and stay borrowed.
+        // Every field is a number, so that any bytes are a record.
+        (bytes.len() == JOB_BYTES && job.is_aligned()).then(|| unsafe { &*job })
+    }
+
+    /// The same, to be changed.
+    pub fn in_bytes_mut(bytes: &mut [u8]) -> Option<&mut Job> {
+        let job = bytes.as_mut_ptr().cast::<Job>();
+        // SAFETY: As above; and since every byte of a record belongs to a field, none of them is ever
+        // left without a value.
+        (bytes.len() == JOB_BYTES && job.is_aligned()).then(|| unsafe { &mut *job })
+    }
+
+    /// The bytes of the record, as they lie in memory.
+    pub fn as_bytes(&self) -> &[u8; JOB_BYTES] {
+        // SAFETY: A record has so many bytes, and each of them belongs to a field.
+        unsafe { &*std::ptr::from_ref(self).cast() }
+    }
+}
+
+/// The two numbers of a record that is to be written.
+#[derive(Debug, Clone, Copy, PartialEq, Eq)]
+pub struct WriteAnswer {
+    /// 0 if the sheet was written, else the refusal: 54 or 55.
+    pub number: u32,
+    /// Bytes of the sheet at the start of the output memory.
+    pub written: u32,
+}
+
+impl WriteAnswer {
+    /// The two numbers out of an answer memory, where each has 32 bits, low byte first.
+    pub fn from_bytes(bytes: &[u8; WRITE_ANSWER_BYTES]) -> WriteAnswer {
+        WriteAnswer {
+            number: number(bytes, 0),
+            written: number(bytes, 1),
+        }
+    }
+
+    /// The two numbers in their order.
+    pub fn numbers(&self) -> [u32; 2] {
+        [self.number, self.written]
+    }
+}
+
+/// The two numbers of a sheet that is to be read.
+#[derive(Debug, Clone, Copy, PartialEq, Eq)]
+pub struct ReadAnswer {
+    /// 0 if the record holds the sheet, else the refusal from 1 to 9.
+    pub number: u32,
+    /// The line that is refused, from 1; 0 if there is none.
+    pub line: u32,
+}
+
+impl ReadAnswer {
+    /// The two numbers out of an answer memory, where each has 32 bits, low byte first.
+    pub fn from_bytes(bytes: &[u8; READ_ANSWER_BYTES]) -> ReadAnswer {
+        ReadAnswer {
+            number: number(bytes, 0),
+            line: number(bytes, 1),
+        }
+    }
+
+    /// The two numbers in their order.
+    pub fn numbers(&self) -> [u32; 2] {
+        [self.number, self.line]
+    }
+}
+
 /// One number of an answer memory, by its place among them.
 fn number(bytes: &[u8], place: usize) -> u32 {
     let byte = |place: usize| u32::from(bytes[place]);
@@ -274,6 +535,54 @@ pub fn blocks_entry(text: &[u8], keys: u32, output: &mut [u8], answer: &mut [u8]
             keys,
             output.as_mut_ptr(),
             output.len(),
+            answer.as_mut_ptr(),
+            answer.len(),
+        )
+    }
+}
+
+/// Writes a record as a sheet. It is at the start of `output`; behind it, and everywhere if the record is
+/// refused, `output` keeps its bytes.
+pub fn write(job: &Job, output: &mut [u8]) -> WriteAnswer {
+    let mut answer = [0; WRITE_ANSWER_BYTES];
+    write_entry(job, output, &mut answer);
+    WriteAnswer::from_bytes(&answer)
+}
+
+/// The same as a C program has it. It fills `answer` and returns the first of the two numbers; if
+/// `answer` is not exactly [`WRITE_ANSWER_BYTES`] long it returns [`BAD_ANSWER`] and writes nothing.
+pub fn write_entry(job: &Job, output: &mut [u8], answer: &mut [u8]) -> u32 {
+    // SAFETY: As for the other entries, in `call`; and the record is there to be read, and no part of
+    // the others, during the call.
+    unsafe {
+        archive::pavebox_write(
+            job,
+            output.as_mut_ptr(),
+            output.len(),
+            answer.as_mut_ptr(),
+            answer.len(),
+        )
+    }
+}
+
+/// Reads a sheet into a record. What its counts do not cover, and everything if the sheet is refused,
+/// keeps its bytes.
+pub fn read(sheet: &[u8], job: &mut Job) -> ReadAnswer {
+    let mut answer = [0; READ_ANSWER_BYTES];
+    read_entry(sheet, job, &mut answer);
+    ReadAnswer::from_bytes(&answer)
+}
+
+/// The same as a C program has it. It fills `answer` and returns the first of the two numbers; if
+/// `answer` is not exactly [`READ_ANSWER_BYTES`] long it returns [`BAD_ANSWER`] and writes nothing.
+pub fn read_entry(sheet: &[u8], job: &mut Job, answer: &mut [u8]) -> u32 {
+    // SAFETY: As for the other entries, in `call`; and the record is there to be read and to be
+    // written, and no part of the others, during the call.
+    unsafe {
+        archive::pavebox_read(
+            sheet.as_ptr(),
+            sheet.len(),
+            job,
             answer.as_mut_ptr(),
             answer.len(),
         )
@@ -513,5 +822,220 @@ mod tests {
                 assert_eq!((output, answer), ([b'~'; 62], vec![b'~'; length]));
             }
         }
+    }
+
+    /// Two keys, one of them secret, and a message with both.
+    const SAVED: &[u8] = b"sheet=1\nkeys=2\nsecret=1:-300\ndo=receive\ndo=put 1 7\ndo=ifneg 7 4\n\
+        do=send\nmsg=\nmsg=0:1500,1:-7\nturns=LHL\n";
+
+    fn saved() -> Job {
+        let mut job = Job::default();
+        assert_eq!(read(SAVED, &mut job).numbers(), [ACCEPTED, 0]);
+        job
+    }
+
+    #[test]
+    fn a_sheet_is_read_number_by_number() {
+        let job = saved();
+        let command = |word, v, k, t| Command {
+            word,
+            v,
+            k,
+            t,
+            ..Command::default()
+        };
+        let mut wanted = Job {
+            form: 1,
+            keys: 2,
+            secret_count: 1,
+            command_count: 4,
+            message_count: 2,
+            letter_count: 3,
+            ..Job::default()
+        };
+        wanted.secrets[0] = Secret {
+            key: 1,
+            dummy: -300,
+            owner: 0,
+        };
+        wanted.commands[0] = command(WORD_RECEIVE, 0, 0, 0);
+        wanted.commands[1] = command(WORD_PUT, 7, 1, 0);
+        wanted.commands[2] = command(WORD_IFNEG, 7, 0, 4);
+        wanted.commands[3] = command(WORD_SEND, 0, 0, 0);
+        wanted.messages[1].entry_count = 2;
+        wanted.messages[1].entries[0].value = 1_500;
+        wanted.messages[1].entries[1] = Entry { key: 1, value: -7 };
+        wanted.letters[..3].copy_from_slice(b"LHL");
+        assert_eq!(job, wanted);
+    }
+
+    #[test]
+    fn each_word_has_its_number() {
+        let words: [(&str, u32); 15] = [
+            ("set 0 0", WORD_SET),
+            ("add 0 0", WORD_ADD),
+            ("sub 0 0", WORD_SUB),
+            ("mul 0 0", WORD_MUL),
+            ("div 0 0", WORD_DIV),
+            ("read 0 0", WORD_READ),
+            ("has 0 0", WORD_HAS),
+            ("put 0 0", WORD_PUT),
+            ("drop 0", WORD_DROP),
+            ("ifneg 0 0", WORD_IFNEG),
+            ("ifzero 0 0", WORD_IFZERO),
+            ("jump 0", WORD_JUMP),
+            ("receive", WORD_RECEIVE),
+            ("send", WORD_SEND),
+            ("stop", WORD_STOP),
+        ];
+        for (place, (command, word)) in words.into_iter().enumerate() {
+            let sheet = format!("sheet=1\nkeys=1\ndo={command}\nturns=L\n");
+            let mut job = Job::default();
+            assert_eq!(read(sheet.as_bytes(), &mut job).numbers(), [ACCEPTED, 0]);
+            assert_eq!((job.commands[0].word, word), (place as u32, place as u32));
+        }
+    }
+
+    #[test]
+    fn what_the_counts_do_not_cover_keeps_its_bytes() {
+        let mut before = Job::default();
+        before.commands.fill(Command {
+            word: 99,
+            v: 9,
+            w: 9,
+            k: 9,
+            t: 99,
+            n: 9,
+        });
+        before.secrets.fill(Secret {
+            key: 9,
+            dummy: 9,
+            owner: 9,
+        });
+        let entries = [Entry { key: 9, value: 9 }; KEY_PLACES];
+        before.messages.fill(Message {
+            entry_count: 99,
+            entries,
+        });
+        before.letters.fill(b'~');
+        let mut job = before.clone();
+        assert_eq!(read(b"sheet=2\n", &mut job).numbers(), [BAD_NUMBER, 1]);
+        assert_eq!(job, before);
+        assert_eq!(read(SAVED, &mut job).numbers(), [ACCEPTED, 0]);
+        assert_eq!(job.secrets[1..], before.secrets[1..]);
+        assert_eq!(job.commands[4..], before.commands[4..]);
+        assert_eq!(job.messages[0].entries, before.messages[0].entries);
+        assert_eq!(
+            job.messages[1].entries[2..],
+            before.messages[1].entries[2..]
+        );
+        assert_eq!(job.messages[2..], before.messages[2..]);
+        assert_eq!(job.letters[3..], before.letters[3..]);
+        assert_eq!(job.letters[..3], *b"LHL");
+    }
+
+    #[test]
+    fn a_record_is_written_as_the_sheet_that_it_was_read_from() {
+        let length = SAVED.len();
+        let mut output = vec![b'~'; length + 3];
+        assert_eq!(
+            write(&saved(), &mut output).numbers(),
+            [WRITTEN, length as u32]
+        );
+        assert_eq!(output, [SAVED, b"~~~"].concat());
+        let mut just_fits = vec![b'~'; length];
+        assert_eq!(write(&saved(), &mut just_fits).number, WRITTEN);
+        assert_eq!(just_fits, SAVED);
+    }
+
+    #[test]
+    fn a_refused_record_leaves_the_output_as_it_is() {
+        type Change = fn(&mut Job);
+        let refused: [(Change, u32); 6] = [
+            (|job| job.form = 2, BAD_RECORD),
+            (|job| job.secrets[0].owner = 65, BAD_RECORD),
+            (|job| job.commands[3].v = 1, BAD_RECORD),
+            (|job| job.message_count = u32::MAX, BAD_RECORD),
+            (|job| job.letters[2] = b'A', BAD_RECORD),
+            (|job| job.letters[3] = b'A', NO_ROOM_FOR_SHEET),
+        ];
+        for (change, number) in refused {
+            let mut job = saved();
+            change(&mut job);
+            let before = job.clone();
+            let mut output = vec![b'~'; SAVED.len() - 1];
+            assert_eq!(write(&job, &mut output).numbers(), [number, 0]);
+            assert_eq!(output, vec![b'~'; SAVED.len() - 1]);
+            assert_eq!(job, before);
+        }
+    }
+
+    #[test]
+    fn each_number_of_a_record_has_its_place_in_the_answer() {
+        let bytes = [0, 1, 2, 3, 4, 5, 6, 7];
+        let (first, second) = (0x03_02_01_00, 0x07_06_05_04);
+        let (written, line) = (
+            WriteAnswer::from_bytes(&bytes),
+            ReadAnswer::from_bytes(&bytes),
+        );
+        assert_eq!((written.number, written.written), (first, second));
+        assert_eq!((line.number, line.line), (first, second));
+        assert_eq!(written.numbers(), [first, second]);
+        assert_eq!(line.numbers(), [first, second]);
+    }
+
+    #[test]
+    fn empty_memories_are_lawful_for_a_record() {
+        let mut job = saved();
+        assert_eq!(write(&job, &mut []).numbers(), [NO_ROOM_FOR_SHEET, 0]);
+        assert_eq!(write(&Job::default(), &mut []).numbers(), [BAD_RECORD, 0]);
+        assert_eq!(write_entry(&job, &mut [], &mut []), BAD_ANSWER);
+        assert_eq!(read(&[], &mut job).numbers(), [BAD_BYTE, 1]);
+        assert_eq!(read_entry(&[], &mut job, &mut []), BAD_ANSWER);
+        assert_eq!(job, saved());
+    }
+
+    #[test]
+    fn another_length_is_refused_for_a_record_too() {
+        for length in [0, 4, 7, 9, 12, ANSWER_BYTES] {
+            let (mut output, mut answer) = ([b'~'; 200], vec![b'~'; length]);
+            assert_eq!(write_entry(&saved(), &mut output, &mut answer), BAD_ANSWER);
+            let mut job = Job::default();
+            assert_eq!(read_entry(SAVED, &mut job, &mut answer), BAD_ANSWER);
+            assert_eq!((output, answer), ([b'~'; 200], vec![b'~'; length]));
+            assert_eq!(job, Job::default());
+        }
+    }
+
+    #[test]
+    fn a_record_lies_in_bytes_as_a_c_program_has_it() {
+        let job = saved();
+        let bytes = job.as_bytes();
+        for (place, number) in [
+            (0, 1),
+            (4, 2),
+            (8, 1),
+            (12, 1),
+            (204, 4),
+            (232, 7),
+            (236, 7),
+        ] {
+            assert_eq!(bytes[place..place + 4], u32::to_ne_bytes(number));
+        }
+        assert_eq!(bytes[16..20], i32::to_ne_bytes(-300));
+        assert_eq!(bytes[10_580..10_584], u32::to_ne_bytes(3));
+        assert_eq!(bytes[10_584..10_587], *b"LHL");
+        // One of four places that follow each other is a multiple of 4.
+        let mut memory = vec![b'~'; JOB_BYTES + 3];
+        let places: Vec<usize> = (0..4)
+            .filter(|&place| Job::in_bytes(&memory[place..place + JOB_BYTES]).is_some())
+            .collect();
+        assert_eq!(places.len(), 1);
+        let lent = &mut memory[places[0]..places[0] + JOB_BYTES];
+        *Job::in_bytes_mut(lent).expect("it begins where a record may") = job.clone();
+        assert_eq!(lent, bytes);
+        assert_eq!(Job::in_bytes(lent), Some(&job));
+        assert_eq!(Job::in_bytes(&lent[..JOB_BYTES - 4]), None);
+        assert_eq!(Job::in_bytes_mut(&mut lent[4..]), None);
     }
 }

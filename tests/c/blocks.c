@@ -219,8 +219,8 @@ void check_blocks(void)
     check_levels();
     check_most_commands();
     check_long_texts();
-    check_guards(&entry, PROGRAM, 50, written(LINES));
-    check_answer_lengths(&entry, PROGRAM);
+    check_guards(&entry, PROGRAM, strlen(PROGRAM), 50, written(LINES));
+    check_answer_lengths(&entry, PROGRAM, strlen(PROGRAM));
     check_nulls(&entry, PROGRAM, REFUSED(PAVEBOX_BAD_BYTE, 1),
                 REFUSED(PAVEBOX_NO_ROOM_FOR_COMMANDS, 0));
 }

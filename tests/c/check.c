@@ -1,8 +1,8 @@
 /*
  * The archive's boundary from C: memories of exactly the lengths that it is told, of every length
- * that matters. Run it under valgrind, which then sees each byte that is read or written beside
- * them. What sheets, exports and programs with blocks mean is not tried here: tests/differential
- * does that.
+ * that matters, and records of the layout that the header says. Run it under valgrind, which then
+ * sees each byte that is read or written beside them. What sheets, exports and programs with blocks
+ * mean is not tried here: tests/differential does that.
  *
  * Prints a line for each check that fails and, if all hold, one last line. Exit status 1: a check
  * has failed.
@@ -58,7 +58,7 @@ uint8_t *memory(size_t length)
     return bytes;
 }
 
-static uint8_t *copy(const void *bytes, size_t length)
+uint8_t *copy(const void *bytes, size_t length)
 {
     uint8_t *copied = memory(length);
     if (length > 0)
@@ -66,7 +66,7 @@ static uint8_t *copy(const void *bytes, size_t length)
     return copied;
 }
 
-static int is_filled(const uint8_t *bytes, size_t length)
+int is_filled(const uint8_t *bytes, size_t length)
 {
     size_t place;
     for (place = 0; place < length; place++)
@@ -75,13 +75,13 @@ static int is_filled(const uint8_t *bytes, size_t length)
     return 1;
 }
 
-static int same(const void *one, const void *other, size_t length)
+int same(const void *one, const void *other, size_t length)
 {
     return length == 0 || memcmp(one, other, length) == 0;
 }
 
-static void check_answer(const struct entry *entry, const char *name, const uint8_t *answer,
-                         const uint32_t *numbers)
+void check_answer(const struct entry *entry, const char *name, const uint8_t *answer,
+                  const uint32_t *numbers)
 {
     uint8_t bytes[4 * MOST_NUMBERS];
     size_t place;
@@ -111,14 +111,14 @@ void check_call(const struct entry *entry, const char *name, const void *input, 
     free(answer);
 }
 
-void check_guards(const struct entry *entry, const char *input, size_t lent,
+void check_guards(const struct entry *entry, const void *input, size_t input_len, size_t lent,
                   struct wanted wanted)
 {
     const size_t length = strlen(wanted.text), answer_len = 4 * entry->numbers, guard = 13;
     uint8_t *output = memory(guard + lent + guard);
     uint8_t *answer = memory(guard + answer_len + guard);
-    const uint32_t returned = entry->call((const uint8_t *)input, strlen(input), output + guard,
-                                          lent, answer + guard, answer_len);
+    const uint32_t returned
+        = entry->call(input, input_len, output + guard, lent, answer + guard, answer_len);
     check(returned == wanted.numbers[0], "guards", "return");
     check_answer(entry, "guards", answer + guard, wanted.numbers);
     check(same(output + guard, wanted.text, length), "guards", "written lines");
@@ -133,10 +133,10 @@ void check_guards(const struct entry *entry, const char *input, size_t lent,
 }
 
 /* Refusal 10 for an answer memory of this length, at the start of one that has `there` bytes. */
-static void check_refused_answer(const struct entry *entry, const char *input, size_t length,
-                                 size_t there)
+static void check_refused_answer(const struct entry *entry, const void *input, size_t input_len,
+                                 size_t length, size_t there)
 {
-    const size_t input_len = strlen(input), lent = 100;
+    const size_t lent = 100;
     uint8_t *lent_input = copy(input, input_len);
     uint8_t *output = memory(lent);
     uint8_t *answer = memory(there);
@@ -152,17 +152,18 @@ static void check_refused_answer(const struct entry *entry, const char *input, s
     free(answer);
 }
 
-void check_answer_lengths(const struct entry *entry, const char *input)
+void check_answer_lengths(const struct entry *entry, const void *input, size_t input_len)
 {
     size_t length;
     for (length = 0; length <= 64; length++)
         if (length != 4 * entry->numbers)
-            check_refused_answer(entry, input, length, length);
+            check_refused_answer(entry, input, input_len, length, length);
 }
 
-void check_short_answer(const struct entry *entry, const char *input, size_t length)
+void check_short_answer(const struct entry *entry, const void *input, size_t input_len,
+                        size_t length)
 {
-    check_refused_answer(entry, input, length, 4 * entry->numbers);
+    check_refused_answer(entry, input, input_len, length, 4 * entry->numbers);
 }
 
 void check_nulls(const struct entry *entry, const char *input, struct wanted empty,
@@ -235,6 +236,9 @@ int main(void)
     check_run();
     check_csv();
     check_blocks();
+    check_record();
+    check_writing();
+    check_reading();
     if (failures > 0)
         return 1;
     printf("c: all %u checks hold\n", checks);

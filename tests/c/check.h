@@ -49,8 +49,17 @@ void check(int holds, const char *name, const char *what);
 void check_three(const char *name, const char *place, const uint32_t *found,
                  const uint32_t *numbers);
 
-/* Heap memory of exactly this length, which may be 0, and filled. */
+/* Heap memory of exactly this length, which may be 0: filled, or with a copy of these bytes. */
 uint8_t *memory(size_t length);
+uint8_t *copy(const void *bytes, size_t length);
+
+/* Whether this many bytes are those that memory is filled with; whether two texts are the same. */
+int is_filled(const uint8_t *bytes, size_t length);
+int same(const void *one, const void *other, size_t length);
+
+/* The bytes of an answer, and the numbers that the header reads out of them. */
+void check_answer(const struct entry *entry, const char *name, const uint8_t *answer,
+                  const uint32_t *numbers);
 
 /* One call with all three memories on the heap, and all that it leaves. */
 void check_call(const struct entry *entry, const char *name, const void *input, size_t input_len,
@@ -58,15 +67,16 @@ void check_call(const struct entry *entry, const char *name, const void *input, 
 
 /* The same call with the output memory and the answer memory in the middle of larger ones, whose
  * other bytes stay as they are. */
-void check_guards(const struct entry *entry, const char *input, size_t lent,
+void check_guards(const struct entry *entry, const void *input, size_t input_len, size_t lent,
                   struct wanted wanted);
 
 /* Refusal 10, before anything else, with nothing written, for answer memories of every length up to
  * 64 bytes but the right one. */
-void check_answer_lengths(const struct entry *entry, const char *input);
+void check_answer_lengths(const struct entry *entry, const void *input, size_t input_len);
 
 /* The same for this one length, at the start of an answer memory that would be long enough. */
-void check_short_answer(const struct entry *entry, const char *input, size_t length);
+void check_short_answer(const struct entry *entry, const void *input, size_t input_len,
+                        size_t length);
 
 /* NULL with length 0, for each of the three memories and for all: what nothing to be read gives,
  * and what an input that is to write something gives without output memory. */
@@ -79,9 +89,12 @@ void check_nulls(const struct entry *entry, const char *input, struct wanted emp
 #define MOST_BYTES 70
 void check_bytes(const struct entry *entry, uint32_t other);
 
-/* The checks of each entry. */
+/* The checks of each entry, and of the record that the last two share. */
 void check_run(void);
 void check_csv(void);
 void check_blocks(void);
+void check_record(void);
+void check_writing(void);
+void check_reading(void);
 
 #endif

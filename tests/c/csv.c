@@ -148,8 +148,8 @@ void check_csv(void)
     check_refusals();
     check_fullest_export();
     check_long_exports();
-    check_guards(&entry, EXPORT, 30, written(LINES));
-    check_answer_lengths(&entry, EXPORT);
+    check_guards(&entry, EXPORT, strlen(EXPORT), 30, written(LINES));
+    check_answer_lengths(&entry, EXPORT, strlen(EXPORT));
     check_nulls(&entry, EXPORT, REFUSED(PAVEBOX_BAD_ROW, 1),
                 REFUSED(PAVEBOX_NO_ROOM_FOR_LINES, 0));
 }

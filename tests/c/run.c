@@ -201,8 +201,8 @@ void check_run(void)
     check_long_sheets();
     check_fullest_sheet();
     check_clamped();
-    check_guards(&entry, SHEET, 40, WANTED(SENT, 0, 0, 5, 4, 34, 1, 0));
-    check_answer_lengths(&entry, SHEET);
-    check_short_answer(&entry, SHEET, SIX_NUMBERS);
+    check_guards(&entry, SHEET, strlen(SHEET), 40, WANTED(SENT, 0, 0, 5, 4, 34, 1, 0));
+    check_answer_lengths(&entry, SHEET, strlen(SHEET));
+    check_short_answer(&entry, SHEET, strlen(SHEET), SIX_NUMBERS);
     check_nulls(&entry, SHEET, WANTED("", 2, 1, 0, 0, 0, 0, 0), WANTED("", 32, 0, 4, 3, 0, 1, 0));
 }

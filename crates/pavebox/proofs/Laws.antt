@@ -1,11 +1,15 @@
 -- What a call of an entry comes to, case by case.
 use Prim.Native.Nat.{ℕ}
-use mathlib.Core.Path.{_≡_, sym, ap, _∙_}
-use mathlib.Core.List.{List}
+use mathlib.Core.Path.{_≡_, refl, sym, ap, subst, _∙_}
+use mathlib.Core.List.{List, [], _∷_}
 use lib.ListN.{length}
 use borrow.Author.Tests.{eq-eqb, ne-eqb}
-use Rattle.model.specs.Answer.{After, bytesFor, entered}
-use Rattle.pavebox.specs.Entry.{Leaves}
+use Rattle.model.specs.{Answer.After, Answer.allLe32, Answer.bytesFor, Answer.entered, Sheet.Reading, Sheet.accepted, Sheet.refused, Sheet.readSheet, Written.Written}
+use Rattle.model_record.specs.declared.JobRecord.{JobRecord}
+use Rattle.model_record.specs.Entry.{recordNumberCount, saved, writeRecord, writeEntry, AfterRead, opening, readEntry}
+use Rattle.whole_record.specs.Opened as Whole
+use Rattle.whole_record.specs.declared.Opened.{Opened}
+use Rattle.pavebox.specs.Entry.{Leaves, LeavesRecord}
 
 module _ (count : ℕ) (o a : List ℕ) (x : After) where
   pub entered-sized : length a ≡ bytesFor count → entered count o a x ≡ x
@@ -23,3 +27,43 @@ leaves q p m n =
       outputs = m ∙ sym (ap (λ (z : After). z .output) q);
       answers = n ∙ sym (ap (λ (z : After). z .answer) q);
     }
+
+-- ---- The entries of a record
+
+-- the number and the bytes of what is written
+pub saved-leaves : (r : JobRecord) (o a : List ℕ) → length a ≡ bytesFor recordNumberCount → {v : Written} {n : ℕ} {a′ : List ℕ} → v ≡ writeRecord r o
+    → (n ≡ v .answer .number) × (a′ ≡ allLe32 (saved v)) → Leaves (writeEntry r o a) n (v .memory) a′
+unfolding writeEntry
+saved-leaves r o a e q n =
+    leaves (entered-sized recordNumberCount o a _ e) (n .0 ∙ ap (λ (x : Written). x .answer .number) q) (ap (λ (x : Written). x .memory) q)
+    (n .1 ∙ ap (λ (x : Written). allLe32 (saved x)) q)
+
+pub saved-other : (r : JobRecord) (o a : List ℕ) → (length a ≡ bytesFor recordNumberCount → ⊥) → Leaves (writeEntry r o a) 10 o a
+unfolding writeEntry
+saved-other r o a e = leaves (entered-other recordNumberCount o a _ e) refl refl refl
+
+module _ (s : List ℕ) (job : JobRecord) (a : List ℕ) where
+  pub read-sized : length a ≡ bytesFor recordNumberCount → readEntry s job a ≡ opening job (readSheet s)
+  unfolding readEntry
+  read-sized e = rw (eq-eqb _ _ e)
+
+  pub read-other : (length a ≡ bytesFor recordNumberCount → ⊥) → LeavesRecord (readEntry s job a) 10 job a
+  unfolding readEntry
+  read-other e = let q = ne-eqb _ _ e in record { returns = rw q; jobs = rw q; answers = rw q }
+
+  -- what was opened, with its two numbers
+  pub read-leaves : length a ≡ bytesFor recordNumberCount → {o : Opened} {n : ℕ} {a′ : List ℕ} → o ≡ Whole.opened job (readSheet s)
+      → (n ≡ o .number) × (a′ ≡ allLe32 (o .number ∷ o .line ∷ [])) → LeavesRecord (readEntry s job a) n (o .job) a′
+  read-leaves e {o} {n} {a′} q k = subst (λ (x : AfterRead). LeavesRecord x n (o .job) a′) (sym (read-sized e)) (go (readSheet s) q)
+    where
+      told : (y : Opened) → o ≡ y → LeavesRecord (record { returned = y .number; job = y .job; answer = allLe32 (y .number ∷ y .line ∷ []) }) n (o .job) a′
+      told y q =
+          record {
+            returns = k .0 ∙ ap (λ (z : Opened). z .number) q;
+            jobs = ap (λ (z : Opened). z .job) q;
+            answers = k .1 ∙ ap (λ (z : Opened). allLe32 (z .number ∷ z .line ∷ [])) q;
+          }
+
+      go : (x : Reading) → o ≡ Whole.opened job x → LeavesRecord (opening job x) n (o .job) a′
+      go (refused m l) q = told (Whole.opened job (refused m l)) q
+      go (accepted j) q = told (Whole.opened job (accepted j)) q

@@ -3,3 +3,4 @@ pub mod Demands
 pub mod Texts
 pub mod Log
 pub mod Blocks
+pub mod Record

@@ -2,7 +2,7 @@
 //! archive has written are put into a sheet, and are held to what the program does by itself, in the
 //! dialect's own meaning: step by step by a plain run, and by the archive's own run of that sheet.
 
-use crate::compare::{Difference, Entry, Left};
+use crate::compare::{Difference, Entry, Left, Record};
 use crate::part::{Corner, Part, Texts};
 use crate::tally::{Tally, Telling, Wanted};
 use pavebox::{BlocksAnswer, BLOCKS_ANSWER_BYTES, WRITTEN};
@@ -21,6 +21,7 @@ pub static BLOCKS: Part = Part {
         archive: pavebox::blocks_entry,
         model: c_entry,
         input: "program",
+        record: Record::None,
     },
     answer_bytes: BLOCKS_ANSWER_BYTES,
     wrong_lengths: &[0, 1, 4, 8, 11, 13, 16, 24, 28, 48, 268],

@@ -2,6 +2,7 @@
 
 use crate::lent::Lent;
 use reference::generate::Rng;
+use reference::record::{listing, unpack};
 use std::fmt;
 
 /// A function on three lent memories: bytes that it only reads, the output memory and the answer
@@ -14,6 +15,26 @@ pub struct Entry {
     pub model: Call,
     /// What it reads.
     pub input: &'static str,
+    pub record: Record,
+}
+
+/// Which memory of a call is the record of a screen. It begins at a multiple of 4.
+#[derive(Clone, Copy, PartialEq, Eq)]
+pub enum Record {
+    None,
+    Input,
+    Output,
+}
+
+impl Record {
+    /// The steps by which this memory of a call may be moved.
+    fn step(self, memory: Record) -> usize {
+        if self == memory {
+            4
+        } else {
+            1
+        }
+    }
 }
 
 /// The three memories of a call, before it.
@@ -38,10 +59,10 @@ impl Case {
     ) -> Case {
         Case {
             entry,
-            input: Lent::holding(rng, input),
+            input: Lent::holding(rng, input, entry.record.step(Record::Input)),
             keys: None,
-            output: Lent::filled(rng, lent),
-            answer: Lent::filled(rng, answer_length),
+            output: Lent::filled(rng, lent, entry.record.step(Record::Output)),
+            answer: Lent::filled(rng, answer_length, 1),
         }
     }
 
@@ -54,11 +75,21 @@ impl Case {
     pub fn with_input(&self, input: &[u8]) -> Case {
         Case {
             entry: self.entry,
-            input: Lent::holding(&mut Rng::new(0), input),
+            input: Lent::holding(
+                &mut Rng::new(0),
+                input,
+                self.entry.record.step(Record::Input),
+            ),
             keys: self.keys,
             output: self.output.clone(),
             answer: self.answer.clone(),
         }
+    }
+
+    /// The same with these bytes in the output memory, as many as it has.
+    pub fn with_output(mut self, bytes: &[u8]) -> Case {
+        self.output.bytes_mut().copy_from_slice(bytes);
+        self
     }
 
     pub fn input(&self) -> &[u8] {
@@ -79,9 +110,13 @@ impl Case {
     pub fn differs(&self, message: String) -> Difference {
         let keys = self.keys.map(|keys| format!("K {keys}, "));
         let (name, keys) = (self.entry.input, keys.unwrap_or_default());
+        let input = match self.entry.record {
+            Record::Input => shown_record(self.input()),
+            _ => format!("\"{}\"", shown(self.input())),
+        };
         Difference {
             message,
-            input: format!("{keys}{name} \"{}\"", shown(self.input())),
+            input: format!("{keys}{name} {input}"),
             lent: self.output.bytes().len(),
             answer_length: self.answer.bytes().len(),
         }
@@ -99,6 +134,21 @@ fn shown(bytes: &[u8]) -> String {
     let between = bytes.len() - 2 * ENDS;
     let (first, last) = (first.escape_ascii(), last.escape_ascii());
     format!("{first}\" ({between} bytes not shown) \"{last}")
+}
+
+/// A record for a reader: the counts, and what they cover.
+fn shown_record(bytes: &[u8]) -> String {
+    let record = unpack(bytes);
+    let entries = record.messages().iter().map(|message| message.entry_count);
+    format!(
+        "of {} secrets, {} commands, {} messages with {:?} entries, {} letters\n{}",
+        record.secret_count,
+        record.command_count,
+        record.message_count,
+        entries.collect::<Vec<u32>>(),
+        record.letter_count,
+        listing(&record)
+    )
 }
 
 /// What a call leaves.

@@ -4,7 +4,8 @@ use reference::generate::Rng;
 
 /// Bytes on each side of a lent memory that must stay as they are.
 const GUARD: usize = 64;
-/// The start of a memory is moved by up to so many bytes, so that it is aligned to nothing.
+/// The start of a memory is moved by less than so many bytes, so that it is aligned to no more than it has
+/// to be.
 const SHIFTS: usize = 16;
 
 /// Some bytes between two guards.
@@ -18,15 +19,16 @@ pub struct Lent {
 
 impl Lent {
     /// A memory that holds these bytes.
-    pub fn holding(rng: &mut Rng, bytes: &[u8]) -> Lent {
-        let mut lent = Lent::filled(rng, bytes.len());
+    pub fn holding(rng: &mut Rng, bytes: &[u8], step: usize) -> Lent {
+        let mut lent = Lent::filled(rng, bytes.len(), step);
         lent.bytes_mut().copy_from_slice(bytes);
         lent
     }
 
-    /// A memory of some length, with arbitrary bytes.
-    pub fn filled(rng: &mut Rng, length: usize) -> Lent {
-        let start = GUARD + rng.below(SHIFTS);
+    /// A memory of some length, with arbitrary bytes. It is moved by whole steps; a vector of so many bytes
+    /// begins at a multiple of 16, and a call that needs an aligned memory looks whether it has one.
+    pub fn filled(rng: &mut Rng, length: usize, step: usize) -> Lent {
+        let start = GUARD + rng.below(SHIFTS) / step * step;
         let salt = rng.draw() as u8;
         let whole = (0..start + length + GUARD)
             .map(|place| arbitrary(place, salt))

@@ -1,6 +1,6 @@
 //! The entry that makes `msg` lines out of the export of a belt log.
 
-use crate::compare::{Difference, Entry, Left};
+use crate::compare::{Difference, Entry, Left, Record};
 use crate::part::{Corner, Part, Texts};
 use crate::tally::{Tally, Telling, Wanted};
 use pavebox::{CsvAnswer, CSV_ANSWER_BYTES, WRITTEN};
@@ -14,6 +14,7 @@ pub static LOGS: Part = Part {
         archive: |export, _, output, answer| pavebox::csv_entry(export, output, answer),
         model: |export, _, output, answer| c_entry(export, output, answer),
         input: "export",
+        record: Record::None,
     },
     answer_bytes: CSV_ANSWER_BYTES,
     wrong_lengths: &[0, 1, 4, 8, 11, 13, 16, 24, 28, 48, 268],

@@ -1,7 +1,7 @@
 //! The entry that runs a sheet. Every fourth case is a pair of sheets that differ in secret entries
 //! only.
 
-use crate::compare::{Difference, Entry, Left};
+use crate::compare::{Difference, Entry, Left, Record};
 use crate::pairs::compare_pair;
 use crate::part::{Corner, Part, Texts};
 use crate::tally::{Tally, Telling, Wanted};
@@ -40,6 +40,7 @@ pub const RUN: Entry = Entry {
     archive: |sheet, _, output, answer| pavebox::entry(sheet, output, answer),
     model: |sheet, _, output, answer| reference::c_entry(sheet, output, answer),
     input: "sheet",
+    record: Record::None,
 };
 
 /// Lengths of an answer memory that are refused.

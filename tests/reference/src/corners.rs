@@ -8,6 +8,7 @@ pub mod calls;
 pub mod clamps;
 pub mod honest;
 pub mod log;
+pub mod records;
 
 use crate::model::{end_line, LENT};
 use calls::{CALLS, LONG_CALLS};

@@ -9,6 +9,7 @@ mod damage;
 pub mod honest;
 pub mod log;
 mod programs;
+pub mod records;
 
 use crate::model::{
     read, run, words, Job, Level, LENT, MOST_COMMANDS, MOST_KEYS, MOST_MESSAGES, MOST_TURNS,

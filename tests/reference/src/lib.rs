@@ -10,14 +10,16 @@
 //! - [`blocks`] makes `do` lines out of a program with blocks, for Note 5, and [`block_run`] runs such
 //!   a program as it stands.
 //! - [`plain`] runs one execution alone, and says which programs are honest, for Note 4.
+//! - [`record`] writes the record of a screen as a sheet, and reads a sheet into one, for Note 7.
 //! - [`generate`] makes random sheets from a seed: accepted, damaged, noisy, and pairs that differ
 //!   only in their secrets. [`generate::log`] makes random exports, [`generate::honest`] jobs whose
 //!   programs are often honest, [`generate::blocks`] and [`generate::block_damage`] programs with
-//!   blocks.
+//!   blocks, [`generate::records`] records.
 //! - [`corners`] lists hand-written sheets with the text that the documents demand for each, those
 //!   of Note 2 in [`corners::calls`], those of Note 3 in [`corners::clamps`], those of Note 4 in
 //!   [`corners::honest`]; [`corners::log`] has exports with their lines, [`corners::blocks`] programs
-//!   with blocks and theirs. [`corners::bytes`] makes texts of all three kinds for Note 6.
+//!   with blocks and theirs, [`corners::records`] records with their sheets. [`corners::bytes`] makes
+//!   texts of all three kinds for Note 6.
 
 pub mod block_run;
 pub mod blocks;
@@ -26,6 +28,7 @@ pub mod generate;
 pub mod log;
 pub mod model;
 pub mod plain;
+pub mod record;
 
 pub use model::{
     c_entry, in_secret_column, printed, read, run_sheet, Command, Job, Level, Refusal,

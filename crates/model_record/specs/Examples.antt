@@ -1,0 +1,158 @@
+-- Examples of document 02, Note 7: the record of document 01's sheet A, and records that differ from it in one place each.
+use Prim.Native.Nat.{ℕ}
+use mathlib.Core.Path.{_≡_}
+use mathlib.Core.List.{List, [], _∷_}
+use lib.{IntN.ℤ, IntN.pos, ListN.replicate, ListN.set}
+use Rattle.model.specs.{Text.bytes, Examples.sheetA, Witness.job1}
+use Rattle.model_record.specs.Data.{SecretRecord, CommandRecord, EntryRecord, MessageRecord, JobRecord}
+use Rattle.model_record.specs.Record.{keyPlaces, commandPlaces, messagePlaces, letterPlaces, Said, said, textOf, recordOver}
+use Rattle.model_record.specs.Entry.{saved, writeRecord, readEntry}
+use Rattle.model_record.specs.Claims.{Shaped}
+
+-- ---- The record of sheet A
+
+abbrev secret : ℕ → ℤ → ℕ → SecretRecord
+secret k d o = record { key = k; dummy = d; owner = o }
+
+abbrev entry : ℕ → ℤ → EntryRecord
+entry k z = record { key = k; value = z }
+
+-- a word with a variable, a key and a target; none of the examples has more
+abbrev command : ℕ → ℕ → ℕ → ℕ → CommandRecord
+command word v k t = record { word = word; v = v; w = 0; k = k; t = t; n = pos 0 }
+
+abbrev message : ℕ → List EntryRecord → MessageRecord
+message n es = record { «entry_count» = n; entries = es }
+
+-- zeros in every place
+abbrev pub zeroMessage : MessageRecord
+zeroMessage = message 0 (replicate keyPlaces (entry 0 (pos 0)))
+
+unfoldable pub zeros : JobRecord
+zeros =
+    record {
+      form = 0;
+      keys = 0;
+      «secret_count» = 0;
+      secrets = replicate keyPlaces (secret 0 (pos 0) 0);
+      «command_count» = 0;
+      commands = replicate commandPlaces (command 0 0 0 0);
+      «message_count» = 0;
+      messages = replicate messagePlaces zeroMessage;
+      «letter_count» = 0;
+      letters = replicate letterPlaces 0;
+    }
+
+-- sheet A, and what it is read as
+abbrev pub textA : List ℕ
+textA = sheetA "0:1500,1:1480" "LHLHLHLHLH"
+
+unfoldable pub recordA : JobRecord
+recordA = recordOver job1 zeros
+
+-- words by their places: receive, read, put, send, stop
+abbrev pub saidA : Said
+saidA =
+    record {
+      form = 1;
+      keys = 2;
+      secrets = (1, secret 1 (pos 300) 0 ∷ []);
+      commands = (5, command 12 0 0 0 ∷ command 5 0 1 0 ∷ command 7 0 1 0 ∷ command 13 0 0 0 ∷ command 14 0 0 0 ∷ []);
+      messages = (1, (2, entry 0 (pos 1500) ∷ entry 1 (pos 1480) ∷ []) ∷ []);
+      letters = (10, bytes "LHLHLHLHLH");
+    }
+
+pub record Worked : Type 0 where
+  pub places : Shaped zeros
+  pub opens : readEntry textA zeros (replicate 8 0) ≡ record { returned = 0; job = recordA; answer = replicate 8 0 }
+  pub held : Shaped recordA
+  pub says : said recordA ≡ saidA
+  pub text : textOf recordA ≡ textA
+
+-- ---- Records that differ from it
+
+-- in the form, the count of keys, and the counts of commands, messages and letters
+unfoldable pub counted : ℕ → ℕ → ℕ → ℕ → ℕ → JobRecord
+counted form keys commands messages letters =
+    record {
+      form = form;
+      keys = keys;
+      «secret_count» = recordA .«secret_count»;
+      secrets = recordA .secrets;
+      «command_count» = commands;
+      commands = recordA .commands;
+      «message_count» = messages;
+      messages = recordA .messages;
+      «letter_count» = letters;
+      letters = recordA .letters;
+    }
+
+-- in what the arrays hold
+unfoldable pub holding : List SecretRecord → List CommandRecord → List MessageRecord → List ℕ → JobRecord
+holding ss cs ms ls =
+    record {
+      form = recordA .form;
+      keys = recordA .keys;
+      «secret_count» = recordA .«secret_count»;
+      secrets = ss;
+      «command_count» = recordA .«command_count»;
+      commands = cs;
+      «message_count» = recordA .«message_count»;
+      messages = ms;
+      «letter_count» = recordA .«letter_count»;
+      letters = ls;
+    }
+
+-- one secret, command, message or letter
+abbrev withSecret : ℕ → SecretRecord → JobRecord
+withSecret i s = holding (set (recordA .secrets) i s) (recordA .commands) (recordA .messages) (recordA .letters)
+
+abbrev withCommand : ℕ → CommandRecord → JobRecord
+withCommand i c = holding (recordA .secrets) (set (recordA .commands) i c) (recordA .messages) (recordA .letters)
+
+abbrev withMessage : ℕ → MessageRecord → JobRecord
+withMessage i m = holding (recordA .secrets) (recordA .commands) (set (recordA .messages) i m) (recordA .letters)
+
+abbrev withLetter : ℕ → ℕ → JobRecord
+withLetter i b = holding (recordA .secrets) (recordA .commands) (recordA .messages) (set (recordA .letters) i b)
+
+-- An example: a record, the bytes lent, and the number and the bytes that saving it answers
+pub record Example : Type 0 where
+  pub job : JobRecord
+  pub lent : ℕ
+  pub number : ℕ
+  pub count : ℕ
+
+abbrev example : JobRecord → ℕ → ℕ → ℕ → Example
+example r lent n b = record { job = r; lent = lent; number = n; count = b }
+
+abbrev pub Holds : Example → Type 0
+Holds e = saved (writeRecord (e .job) (replicate (e .lent) 0)) ≡ e .number ∷ e .count ∷ []
+
+abbrev pub AllHold : List Example → Type 0
+AllHold [] = Unit {0}
+AllHold (e ∷ es) = Holds e × AllHold es
+
+-- sheet A's record with exactly enough memory and with a byte less. With none, 55 says that a record passes: the counts; the last letter and the first that is not
+-- covered; an operand that `stop` lacks, and the same behind the last command; an owner; keys that do not rise; a target at the end and beyond; another form.
+unfoldable pub list : List Example
+list =
+    example recordA 113 0 113
+    ∷ example recordA 112 55 0
+    ∷ example (counted 1 0 5 1 10) 0 54 0
+    ∷ example (counted 1 9 5 1 10) 0 54 0
+    ∷ example (counted 1 1 5 1 10) 0 54 0
+    ∷ example (counted 1 2 5 1 0) 0 54 0
+    ∷ example (counted 1 2 5 1 1025) 0 54 0
+    ∷ example (counted 1 2 0 1 10) 0 54 0
+    ∷ example (counted 1 2 5 33 10) 0 54 0
+    ∷ example (withLetter 9 65) 0 54 0
+    ∷ example (withLetter 10 65) 0 55 0
+    ∷ example (withCommand 4 (command 14 5 0 0)) 0 54 0
+    ∷ example (withCommand 5 (command 0 5 0 0)) 0 55 0
+    ∷ example (withSecret 0 (secret 1 (pos 300) 65)) 0 54 0
+    ∷ example (withMessage 0 (message 2 (entry 0 (pos 1500) ∷ entry 0 (pos 1480) ∷ replicate 14 (entry 0 (pos 0))))) 0 54 0
+    ∷ example (withCommand 4 (command 11 0 0 5)) 0 55 0
+    ∷ example (withCommand 4 (command 11 0 0 6)) 0 54 0
+    ∷ example (counted 2 2 5 1 10) 0 54 0
+    ∷ []

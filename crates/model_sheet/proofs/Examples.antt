@@ -1,0 +1,13 @@
+-- The examples hold: antt computes each.
+use mathlib.Core.Path.{refl}
+use Rattle.model.specs.{Text.bytes, Command.table, Accepted.rowFor, Examples.sheetA}
+use Rattle.model.specs.Decimal.{digits, widthTo, width, natural, whole}
+use Rattle.model_text.specs.Text.{joined, unlines, named, pairText, pairs, messageText, messageLines, operandText, commandText, commandLines}
+use Rattle.model_sheet.specs.Sheet.{headLines, secretLines, turnsLines, sheetText}
+use Rattle.model_sheet.specs.Examples.{AllHold, jobEmpty, list}
+
+pub examples : AllHold list
+unfolding bytes table rowFor sheetA digits widthTo width natural whole
+    joined unlines named pairText pairs messageText messageLines operandText commandText commandLines
+    headLines secretLines turnsLines sheetText jobEmpty list
+examples = (refl, (refl, tt))

@@ -1,0 +1,13 @@
+-- Refusal 10, or the record with the numbers.
+use borrow.Author.Needs.{needs}
+use Rattle.pavebox.proofs.Laws.{read-other, read-leaves}
+use Rattle.pavebox.proofs.read_into.Statement.{statement}
+use Rattle.pavebox.proofs.read_into.Tie as tie
+
+pub read-into-spec : {M : Type 1} → statement M
+read-into-spec =
+    tie.close
+    (tie.spec
+    (λ c. read-other _ _ _ (c .if1 .taken))
+    (λ c κs. search needs) (λ c κs. search needs) (λ c. search needs)
+    (λ c. let put = c .before .before .before in read-leaves _ _ _ (search needs) (put .before .before .open-sheet .ensures) (put .put-two .ensures)))

@@ -1,0 +1,4 @@
+-- The laws of the readers of a record.
+mod Laws
+mod Words
+mod Whole
