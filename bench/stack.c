@@ -176,7 +176,7 @@ static const struct measured *find(const char *name)
         {"csv", PAVEBOX_CSV_ANSWER_BYTES, used_by_csv},
         {"blocks", PAVEBOX_BLOCKS_ANSWER_BYTES, used_by_blocks},
         {"write", PAVEBOX_WRITE_ANSWER_BYTES, used_by_write},
-        {"read", PAVEBOX_READ_ANSWER_BYTES, used_by_read},
+        {"read", PAVEBOX_JOB_ANSWER_BYTES, used_by_read},
     };
     size_t place;
     for (place = 0; place < sizeof entries / sizeof entries[0]; place++)

@@ -3,6 +3,9 @@
  * export of a belt log; its do lines out of a program with blocks; and a sheet opened as a record and
  * saved from one. Link with libpavebox.a. Where read-only memory is short, link with
  * -Wl,--gc-sections: then only what the called entries need is kept.
+ *
+ * Stack, as measured on x86-64, in KB of 1,024 bytes: pavebox_run takes 20, pavebox_csv 7,
+ * pavebox_blocks 7, pavebox_write 18 and pavebox_read 40.
  */
 #ifndef PAVEBOX_H
 #define PAVEBOX_H
@@ -305,8 +308,7 @@ typedef char pavebox_job_size_check[sizeof(struct pavebox_job) == PAVEBOX_JOB_BY
  * Returns PAVEBOX_WRITTEN or the refusal, which is also the first of the two numbers. If answer_len
  * is not 8 it returns PAVEBOX_BAD_ANSWER and writes nothing.
  *
- * Reading what was written gives the same record in all that its counts cover. Some 18 KB of stack are
- * used.
+ * Reading what was written gives the same record in all that its counts cover.
  *
  * The caller's duties for both ranges are those of pavebox_run: each pointer is to that many bytes,
  * with a length of 0 it may be NULL, and alignment does not matter. job is never NULL and points to a
@@ -351,7 +353,7 @@ static inline struct pavebox_write_answer pavebox_read_write_answer(const uint8_
  * line are those that pavebox_run gives for the sheet. If answer_len is not 8 it returns
  * PAVEBOX_BAD_ANSWER and writes nothing, neither there nor in the record.
  *
- * Writing the record gives the bytes of the sheet. Some 40 KB of stack are used.
+ * Writing the record gives the bytes of the sheet.
  *
  * The caller's duties are those of pavebox_write. So before a record is read into for the first time
  * its bytes are set, to anything.
