@@ -4,10 +4,9 @@
 use input::Text;
 use libc::STDERR_FILENO;
 use model::MOST_BYTES;
+use model_sheet::LONGEST_SHEET;
 
 const READ_BYTES: usize = MOST_BYTES + 1;
-
-const LENT_BYTES: usize = 6270;
 
 fn complain(what: &[u8]) {
     io::write_all(STDERR_FILENO, b"resave: ");
@@ -16,7 +15,7 @@ fn complain(what: &[u8]) {
 
 fn main() {
     let mut sheet = [0u8; READ_BYTES];
-    let mut output = [0u8; LENT_BYTES];
+    let mut output = [0u8; LONGEST_SHEET];
     match input::text_argument(&mut sheet, 1) {
         Text::Got(n) => {
             show::resave_and_print(&sheet[..n], &mut output);

@@ -13,6 +13,7 @@ use read_record::read_record;
 use read_sheet::Status;
 use read_sheet::read_sheet;
 use write_record::record_over;
+use write_sheet::fits;
 use write_sheet::put_sheet;
 ghost use mathlib.Core.Path.{_≡_};
 ghost use Rattle.model.specs.{Written.written, Sheet.readSheet};
@@ -29,8 +30,7 @@ fn refuse(number: u32) -> TextAnswer
     }
 }
 
-// Writes the sheet of a record into the output memory, or refuses and writes nothing. The sheet is counted first, in no memory at all. Any record at all is
-// taken.
+// Writes the sheet of a record into the output memory, or refuses and writes nothing. Any record at all is taken.
 pub fn save_record(r: JobRecord, output: &mut [u8]) -> TextAnswer
     ensures { λ a. ⌜ written a (now (output .exit)) ≡ writeRecord r (now (output .entry)) ⌝ }
 {
@@ -39,12 +39,10 @@ pub fn save_record(r: JobRecord, output: &mut [u8]) -> TextAnswer
         return refuse(54);
     }
     let job = taken.job;
-    let mut nowhere = [0u8; 0];
-    let n = put_sheet(&mut nowhere, job);
-    if output.len() < n {
+    if !fits(job, output.len()) {
         return refuse(55);
     }
-    put_sheet(output, job);
+    let n = put_sheet(output, job);
     TextAnswer {
         number: 0,
         line: 0,
