@@ -25,7 +25,7 @@ const BLOCKS_ANSWER_BYTES: usize = TEXT_ANSWER_BYTES;
 
 const WRITE_ANSWER_BYTES: usize = 8;
 
-const READ_ANSWER_BYTES: usize = 8;
+const JOB_ANSWER_BYTES: usize = 8;
 
 // An answer memory of another length than 28 bytes gets 10, and nothing is written; else the sheet is run on the output memory, the seven numbers go
 // into the answer memory, and the first of them is returned.
@@ -123,7 +123,7 @@ struct Opening {
 fn read_into(sheet: &[u8], job: JobRecord, answer: &mut [u8]) -> Opening
     ensures { λ t. ⌜ ReadAnswered (now (sheet .entry)) job (now (answer .entry)) (t .number) (t .after) (now (answer .exit)) ⌝ }
 {
-    if answer.len() != READ_ANSWER_BYTES {
+    if answer.len() != JOB_ANSWER_BYTES {
         return Opening {
             after: job,
             number: 10,
