@@ -15,7 +15,7 @@ fn main() {
     let mut output = [0u8; LENT_BYTES];
     match input::text_argument(&mut log, 1) {
         Text::Got(n) => {
-            show::write_and_print(&log[..n], &mut output);
+            show_log::write_and_print(&log[..n], &mut output);
         }
         Text::Failed => complain(b"the export could not be read\n"),
         Text::TooLong => complain(b"the export has more than 262,144 bytes\n"),

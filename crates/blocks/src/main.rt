@@ -16,7 +16,7 @@ fn translate(keys: u32) {
     let mut output = [0u8; LENT_BYTES];
     match input::text_argument(&mut text, 2) {
         Text::Got(n) => {
-            show::translate_and_print(&text[..n], keys, &mut output);
+            show_blocks::translate_and_print(&text[..n], keys, &mut output);
         }
         Text::Failed => complain(b"the program could not be read\n"),
         Text::TooLong => complain(b"the program has more than 262,144 bytes\n"),

@@ -1,10 +1,9 @@
 -- What a run of a whole sheet answers, prints and leaves in the memories that are lent to it.
 use Prim.Native.Nat.{ℕ, _*_, _/_, _%_}
 use mathlib.Core.List.{List, [], _∷_, _++_}
-use lib.{ListN.length, ListN.getD, ListN.take, Dec.eqb}
+use lib.{ListN.length, ListN.getD, Dec.eqb}
 use mathlib.Core.Bool.{cond}
-use Rattle.model.specs.{Text.bytes, Text.lineFeed, Text.space, Decimal.natural, Run.Outcome, Run.runJob, Line.memoryAfter, Sheet.Reading, Sheet.refused}
-use Rattle.model.specs.{Sheet.accepted, Sheet.readSheet}
+use Rattle.model.specs.{Text.bytes, Text.lineFeed, Text.space, Decimal.natural}
 use Rattle.model.specs.Data.{Ending, Stopped, LettersUsed, NoRoom, Answer, Ended, Refused}
 
 -- the number of an ending, "From the state"
@@ -19,26 +18,6 @@ endingNumber NoRoom = 32
 unfoldable pub numbersOf : Answer → List ℕ
 numbersOf (Ended e c) = endingNumber e ∷ 0 ∷ c .positions ∷ c .steps ∷ c .bytes ∷ c .taken ∷ c .clamped ∷ []
 numbersOf (Refused n l) = n ∷ l ∷ 0 ∷ 0 ∷ 0 ∷ 0 ∷ 0 ∷ []
-
--- What a run of a sheet leaves: its answer, and the output memory
-pub record Left : Type 0 where
-  pub answer : Answer
-  pub memory : List ℕ
-
-abbrev pub left : Answer → List ℕ → Left
-left a m = record { answer = a; memory = m }
-
-abbrev pub leftBy : List ℕ → Outcome → Left
-leftBy m o = left (Ended (o .ending) (o .counts)) (memoryAfter m (o .lines))
-
--- of a refused sheet "Output memory is untouched"
-abbrev pub leave : List ℕ → Reading → Left
-leave m (refused n l) = left (Refused n l) m
-leave m (accepted j) = leftBy m (runJob j (length m))
-
--- a sheet s, and the output memory m that is lent to its run
-unfoldable pub runSheet : List ℕ → List ℕ → Left
-runSheet s m = leave m (readSheet s)
 
 -- ---- `runsheet`
 
@@ -55,13 +34,6 @@ report ns = bytes "end=" ++ (spaced ns ++ (lineFeed ∷ []))
 -- the bytes written, the fifth of the seven numbers
 abbrev pub bytesWritten : List ℕ → ℕ
 bytesWritten ns = getD ns 4 0
-
-abbrev pub printedBy : Left → List ℕ
-printedBy l = take (bytesWritten (numbersOf (l .answer))) (l .memory) ++ report (numbersOf (l .answer))
-
--- "prints the sent lines and then `end=`"
-unfoldable pub printed : List ℕ → List ℕ → List ℕ
-printed s m = printedBy (runSheet s m)
 
 -- ---- The C entries
 
@@ -102,9 +74,3 @@ numberCount = 7
 
 abbrev pub answerBytes : ℕ
 answerBytes = bytesFor numberCount
-
-abbrev pub answeredBy : Left → After
-answeredBy l = answered (numbersOf (l .answer)) (l .memory)
-
-unfoldable pub runEntry : List ℕ → List ℕ → List ℕ → After
-runEntry s m a = entered numberCount m a (answeredBy (runSheet s m))

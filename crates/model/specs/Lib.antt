@@ -1,5 +1,5 @@
--- Document 01 as definitions, in its order, with the rule of document 02's Note 2 in the turn and Note 3's number in the answer, and what document 02 shares
--- with it; then what is claimed of them, of the plain run of Note 4, and of the class that Note 6 keeps.
+-- Document 01 as definitions, in its order, up to the job that a sheet says, with the numbers of its answer and what document 02 shares with it; then what is claimed of
+-- accepted sheets, of written texts and of the class that Note 6 keeps. The run is in `model_run`.
 pub mod Data
 pub mod Limits
 pub mod Parsed
@@ -16,26 +16,11 @@ pub mod Messages
 pub mod Turns
 pub mod Job
 pub mod Stored
+pub mod Execution
 pub mod Form
 pub mod Sheet
-pub mod Arith
-pub mod Step
-pub mod Process
-pub mod Line
-pub mod State
-pub mod Message
-pub mod Verdict
-pub mod Run
 pub mod Answer
 pub mod Written
-pub mod Secrecy
-pub mod Counted
 pub mod Accepted
-pub mod Examples
-pub mod Witness
-pub mod CallKinds
-pub mod Clamped
-pub mod Plain
-pub mod Honest
-pub mod HonestExamples
+pub mod SheetA
 pub mod Classes

@@ -1,8 +1,8 @@
 -- Numbers as a sheet writes them. "A number has no leading zero except 0 itself. A minus sign stands only before a number other than 0, and
 -- there is no plus sign." Refusal 4: "a number is malformed or beyond its limit".
-use mathlib.Core.Bool.{cond}
+use mathlib.Core.Bool.{cond, Bool, true, false}
 use mathlib.Core.List.{List, [], _∷_}
-use Prim.Native.Nat.{ℕ, _+_, _*_, _-_, pred}
+use Prim.Native.Nat.{ℕ, _+_, _*_, _-_, pred, zero, suc}
 use lib.{Dec.eqb, Dec.leb, IntN.ℤ, IntN.negsuc, IntN.pos}
 use Rattle.model.specs.{Parsed.Parsed, Parsed.got, Parsed.refused, Parsed.need, Parsed._>>_, Parsed._>>=_, Text.classOf, Text.digitClass, Text.minus}
 use Rattle.model.specs.{Text.zeroDigit, Limits.leastNumber, Limits.greatestNumber}
@@ -51,3 +51,8 @@ positive s = do
 unfoldable pub number : List ℕ → Parsed ℤ
 number [] = refused 4
 number (b ∷ bs) = cond (eqb b minus) (negative bs) (positive (b ∷ bs))
+
+abbrev pub isZero : ℤ → Bool
+isZero (pos zero) = true
+isZero (pos (suc n)) = false
+isZero (negsuc n) = false

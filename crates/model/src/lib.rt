@@ -5,8 +5,9 @@
 ghost use mathlib.Core.Path.{_≡_};
 ghost use Prim.Native.Nat.{_<_, _≤_};
 ghost use lib.ListN.{replicate};
-ghost use Rattle.model.specs.{Limits.variables, Command.blank, Step.begun as Execution·begun, Step.afterOf, Step.calledOf, Step.callsBy, Stored.keyCapacity};
-ghost use Rattle.model.specs.{Stored.commandCapacity, Stored.messageCapacity, Stored.openSlot, Stored.absentSlot, Stored.blankLine, Stored.nothingStored};
+ghost use Rattle.model.specs.{Limits.variables, Command.blank, Execution.begun as Execution·begun, Execution.afterOf, Execution.calledOf, Execution.callsBy};
+ghost use Rattle.model.specs.{Stored.keyCapacity, Stored.commandCapacity, Stored.messageCapacity, Stored.openSlot, Stored.absentSlot, Stored.blankLine};
+ghost use Rattle.model.specs.{Stored.nothingStored};
 ghost use Rattle.model.specs.Form.{formOne};
 ghost use Rattle.model.specs.declared.Op.the-variants.{Set};
 

@@ -6,13 +6,14 @@ use mathlib.Core.List.{List}
 use lib.{IntN.ℤ, IntN.pos, ListN.length, ListN.getD, ListN.set, Seq.set-getD}
 use native.Mathlib.{Omega.arith, Nat.add-zero}
 use borrow.Author.Tests.{le-leb, lt-leb}
-use Rattle.model.specs.{Arith.isZero, Step.callOf, Step.variable, Step.effectBy, Step.steppedBy, Step.does, Process.Process, Process.fresh, Process.entry, Process.refill}
-use Rattle.model.specs.{Process.stored, Process.step, Process.command, Process.stopped, Plain.PlainState, Plain.calling, Plain.callNow, Plain.plainStep, Plain.plainAt}
-use Rattle.model.specs.{Plain.callAtStep, Plain.entriesAtStep}
+use Rattle.model.specs.{Number.isZero}
+use Rattle.model_run.specs.{Step.callOf, Step.variable, Step.effectBy, Step.steppedBy, Step.does, Process.Process, Process.fresh, Process.entry, Process.refill}
+use Rattle.model_run.specs.{Process.stored, Process.step, Process.command, Process.stopped, Plain.PlainState, Plain.calling, Plain.callNow, Plain.plainStep}
+use Rattle.model_run.specs.{Plain.plainAt, Plain.callAtStep, Plain.entriesAtStep}
 use Rattle.model.specs.declared.{Entry.Entry, Entry.the-variants.Absent, Command.Command, Execution.Execution, Call.Call, Call.the-variants.Neither, Op.Op}
 use Rattle.model.specs.declared.Call.the-variants.{Receives, Sends}
 use Rattle.model.specs.declared.Op.the-variants.{Set, Add, Sub, Mul, Div, Read, Has, Put, Drop, IfNeg, IfZero, Jump, Receive, Send, Stop}
-use Rattle.model.proofs.Plain.{calling-execution}
+use Rattle.model_run.proofs.Plain.{calling-execution}
 use Rattle.model_blocks.specs.Block.{wayOf, allowed, testTo, jumpTo, commandsOf}
 use Rattle.model_blocks.specs.Meaning.{ToDo, NextStep, stops, obeys, tests, jumps, nextStep, leftBehind, BlockState, placedAt, stateAt, obeyed, stepBy, blockStep, BlockJob, blockAt}
 use Rattle.model_blocks.specs.Meaning.{noStep, callIn, blockStopped, blockCall, blockEntries}

@@ -4,7 +4,7 @@ use Rattle.model.specs.{Placed.front, Decimal.digits, Decimal.widthTo, Decimal.
 use Rattle.model.specs.Text.{bytes, classOf, same, split, init, lines, count}
 use Rattle.model.specs.Number.{digits as readDigits, natural as readNatural, within, upTo, fromOne, negative, positive, number}
 use Rattle.model.specs.{Command.table, Command.operand, Command.operands, Command.rowOf, Command.byRow, Sheet.forbiddenLine, Sheet.closed, Accepted.rowFor}
-use Rattle.model.proofs.HonestExamples.{openedPlain}
+use Rattle.model_run.proofs.HonestExamples.{openedPlain}
 use Rattle.model_text.specs.Examples.{AllHold, times}
 use Rattle.model_text.specs.Text.{joined, unlines, named, operandText, commandText, commandLines}
 use Rattle.model_blocks.specs.Block.{places, translate, _then_}

@@ -6,7 +6,7 @@ use mathlib.Core.List.{List, _∷_, _++_}
 use lib.IntN.{ℤ}
 use lib.ListN.{length}
 use native.Mathlib.Omega.{arith}
-use Rattle.model.specs.Step.{effectBy}
+use Rattle.model_run.specs.Step.{effectBy}
 use Rattle.model.specs.declared.Entry.{Entry}
 use Rattle.model.specs.declared.Command.{Command}
 use Rattle.model.specs.declared.Op.{Op}

@@ -8,8 +8,9 @@ use lib.ListN.{length, length-append, length-replicate}
 use Rattle.model.specs.{Limits.mostKeys, Text.bytes, Text.lineFeed, Text.lines, Decimal.natural, Sheet.accepted, Sheet.readSheet}
 use Rattle.model.specs.{Sheet.closed, Accepted.Every, Accepted.Within}
 use Rattle.model.specs.declared.Key.the-variants.{Open}
-use Rattle.model.proofs.{Written.always-writes, Examples.opened}
-use Rattle.read_text.specs.Text.{starts}
+use Rattle.model.proofs.{Written.always-writes}
+use Rattle.model_run.proofs.{Examples.opened}
+use Rattle.model_text.specs.Found.{starts}
 use Rattle.model_text.specs.{Text.commandLines, Pasted.startsDo, Pasted.CutAtProgram}
 use Rattle.model_text.proofs.{Numbers.digit-length, Short.command-lines-short, Replaced.program-pasted}
 use Rattle.model_blocks.specs.{Block.commandsOf, Dialect.readBlocks, Dialect.draft, Dialect.writeBlocks}

@@ -11,7 +11,7 @@ use Rattle.model.specs.{Sheet.forbiddenLine, Sheet.closed}
 use Rattle.model.specs.Parsed as Parsed
 use Rattle.model.specs.declared.Command.{Command}
 use Rattle.model.proofs.{Parsed.never, Parsed.bind-got, Parsed.need-got, Accepted.up-to-bound}
-use Rattle.read_text.proofs.Laws.{and-both}
+use Rattle.model_text.proofs.TextLaws.{and-both}
 use Rattle.model_blocks.specs.Block.{Block, empty, own, _then_}
 use Rattle.model_blocks.specs.Dialect.{BlockWord, ifWord, elseWord, whileWord, endWord, otherWord, blockWord, ownCommand, tested, alone, Opener, inIf, inElse, inWhile}
 use Rattle.model_blocks.specs.Dialect.{OpenBlock, Standing, nothingOpen, adding, opening, deepest, onOpening, innermost, behindElse, onElse, closedBlock, onEnd, lineBy, lineIn}

@@ -11,7 +11,7 @@ use Rattle.model.specs.{Command.Row, Command.table, Command.rowOf, Command.limi
 use Rattle.model.specs.Parsed as Parsed
 use Rattle.model.specs.declared.{Op.Op, Command.Command}
 use Rattle.model.proofs.{Parsed.never, Parsed.bind-got, Accepted.row-command}
-use Rattle.read_text.proofs.Lines.{same-eq}
+use Rattle.model_text.proofs.LineLaws.{same-eq}
 use Rattle.model_text.specs.Text.{joined, unlines, named, commandText}
 use Rattle.model_text.proofs.Bytes.{Spans, Free, spans-wider, spans-free, every-made, every-imply}
 use Rattle.model_text.proofs.{Numbers.natural-read, Numbers.natural-spans, Commands.command-read, Commands.command-printed}

@@ -2,7 +2,7 @@
 use Prim.Native.Nat.{ℕ}
 use mathlib.Core.Path.{_≡_}
 use mathlib.Core.Bool.{true}
-use Rattle.model.specs.{Process.stopped, Plain.PlainJob, Plain.plainAt, Plain.callAtStep, Plain.entriesAtStep}
+use Rattle.model_run.specs.{Process.stopped, Plain.PlainJob, Plain.plainAt, Plain.callAtStep, Plain.entriesAtStep}
 use Rattle.model_blocks.specs.Block.{Block, empty, own, ifOnly, ifElse, while, wayOf, allowed, commandsOf}
 use Rattle.model_blocks.specs.Meaning.{BlockJob, blockAt, blockStopped, blockCall, blockEntries}
 

@@ -5,7 +5,8 @@ use mathlib.Core.Path.{_≡_}
 use mathlib.Core.Bool.{Bool, true, false}
 use mathlib.Core.List.{List, [], _∷_, _++_}
 use lib.{IntN.ℤ, IntN.pos, IntN.negsuc, ListN.length}
-use Rattle.model.specs.{Text.bytes, Command.blank, Process.stopped, Plain.plainAt, Plain.callAtStep, HonestExamples.stepsFrom}
+use Rattle.model.specs.{Text.bytes, Command.blank}
+use Rattle.model_run.specs.{Process.stopped, Plain.plainAt, Plain.callAtStep, HonestExamples.stepsFrom}
 use Rattle.model.specs.declared.{Command.Command, Call.Call, Op.the-variants.Set, Op.the-variants.Add, Op.the-variants.Send, Op.the-variants.Receive}
 use Rattle.model.specs.declared.{Op.the-variants.Stop, Call.the-variants.Neither, Call.the-variants.Receives, Call.the-variants.Sends}
 use Rattle.model_text.specs.Examples.{Example, example, times}

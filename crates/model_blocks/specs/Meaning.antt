@@ -2,7 +2,8 @@
 use Prim.Native.Nat.{ℕ, zero, suc}
 use mathlib.Core.Bool.{Bool, true, false, cond}
 use mathlib.Core.List.{List}
-use Rattle.model.specs.{Arith.isZero, Step.callOf, Step.variable, Process.Process, Process.fresh, Process.step, Plain.PlainState, Plain.calling}
+use Rattle.model.specs.{Number.isZero}
+use Rattle.model_run.specs.{Step.callOf, Step.variable, Process.Process, Process.fresh, Process.step, Plain.PlainState, Plain.calling}
 use Rattle.model.specs.declared.{Entry.Entry, Command.Command, Call.Call, Call.the-variants.Neither}
 use Rattle.model_blocks.specs.Block.{Block, empty, own, ifOnly, ifElse, while, Way, ahead, atEnd, elsewhere, wayOf}
 

@@ -6,7 +6,8 @@ use native.Mathlib.Omega.{arith}
 use lib.ListN.{length-append}
 use Rattle.model.specs.{Text.bytes, Accepted.Every, Accepted.Full}
 use Rattle.model.specs.declared.Entry.{Entry}
-use Rattle.model.proofs.{Written.always-writes, Examples.opened}
+use Rattle.model.proofs.{Written.always-writes}
+use Rattle.model.proofs.Opened.{readingOpened as opened}
 use Rattle.model_text.specs.{Text.messageLines, Pasted.CutAtTurns}
 use Rattle.model_text.proofs.{Pasted.pasted, Short.lines-short}
 use Rattle.model_log.specs.Log.{Row, keyCount, messages, readLog, draft, writeLog}

@@ -8,7 +8,7 @@ use borrow.Author.Tests.{eqb-true}
 use Rattle.model.specs.{Parsed.got, Text.lineFeed, Text.comma, Text.split, Text.grow as growField}
 use Rattle.model.proofs.Parsed.{need-got}
 use Rattle.model_text.specs.Text.{joined}
-use Rattle.read_text.proofs.{Laws.and-both, Lines.split-some}
+use Rattle.model_text.proofs.{TextLaws.and-both, LineLaws.split-some}
 use Rattle.model_log.specs.Log.{Row, ended, unfinished, grow, rows, clean, fields, carriageReturn}
 use Rattle.model_log.specs.Claims.{AllEnded, rowsText, RowsWhole, FieldsWhole}
 

@@ -13,9 +13,9 @@ use Rattle.model.specs.declared.{Command.Command, Op.Op}
 use Rattle.model.specs.declared.Op.the-variants.{Stop}
 use Rattle.model.specs.declared.Operand.the-variants.{InV, InW, InK, InT, InN}
 use Rattle.model_text.proofs.Commands.{in-table}
-use Rattle.read_text.proofs.Laws.{and-both}
+use Rattle.model_text.proofs.TextLaws.{and-both}
 use Rattle.model_record.specs.Data.{CommandRecord}
-use Rattle.model.specs.Arith.{isZero}
+use Rattle.model.specs.Number.{isZero}
 use Rattle.model_record.specs.Record.{inRange, commandFits, commandOf, commandRecord}
 use Rattle.model_record.proofs.Tests.{and-made}
 

@@ -12,7 +12,7 @@ use Rattle.model.specs.declared.Entry.the-variants.{Absent, Number}
 use Rattle.model.proofs.Accepted.{every-replicate}
 use Rattle.model_text.specs.Text.{pairs}
 use Rattle.model_text.proofs.Bytes.{every-made-from}
-use Rattle.read_text.proofs.Laws.{and-both}
+use Rattle.model_text.proofs.TextLaws.{and-both}
 use Rattle.model_record.specs.Data.{EntryRecord}
 use Rattle.model_record.specs.Record.{rising, entersAll, entryKey, entryFits, entriesFit, entryPair, entryRecord, entryRecords}
 use Rattle.model_record.proofs.Tests.{and-made, Pass, all-every, every-all}

@@ -1,8 +1,9 @@
 -- The examples hold: antt computes each.
 use mathlib.Core.Path.{_≡_, refl}
 use lib.ListN.{length}
-use Rattle.model.specs.{Accepted.rowFor, Accepted.has, Written.write, Witness.job1}
-use Rattle.model.proofs.{Accepted.every-replicate, Accepted.accepted-sound, Examples.opened, Witness.bounds-reached}
+use Rattle.model.specs.{Accepted.rowFor, Accepted.has, Written.write, SheetA.job1}
+use Rattle.model.proofs.{Accepted.every-replicate, Accepted.accepted-sound}
+use Rattle.model_run.proofs.{Examples.opened, Witness.bounds-reached}
 use Rattle.model_text.specs.Text as Text
 use Rattle.model.specs.Answer as Answer
 use Rattle.model.specs.Decimal as Decimal

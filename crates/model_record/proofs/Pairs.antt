@@ -11,7 +11,7 @@ use Rattle.model.specs.declared.Entry.{Entry}
 use Rattle.model.specs.declared.Entry.the-variants.{Absent, Number}
 use Rattle.model.proofs.{Accepted.every-set, Stored.map-set}
 use Rattle.model_text.specs.Text.{pairs}
-use Rattle.read_text.proofs.Laws.{and-both}
+use Rattle.model_text.proofs.TextLaws.{and-both}
 use Rattle.model_record.specs.Record.{rising, entersAll}
 use Rattle.model_record.proofs.Tests.{and-made}
 

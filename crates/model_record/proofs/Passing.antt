@@ -6,7 +6,7 @@ use native.Mathlib.Omega.{arith}
 use lib.{Dec.eqb, Dec.leb, ListN.take}
 use borrow.Author.Tests.{eqb-true, eq-eqb, leb-true, le-leb}
 use Rattle.model.specs.{Limits.formNumber, Text.between, Form.formOne, Form.formOf, Accepted.Every}
-use Rattle.read_text.proofs.Laws.{and-both, between-in}
+use Rattle.model_text.proofs.TextLaws.{and-both, between-in}
 use Rattle.model_record.specs.Data.{MessageRecord, JobRecord}
 use Rattle.model_record.specs.Record.{all, secretsFit, commandFits, entriesFit, messageFits, letterFits, countsFit, passes}
 use Rattle.model_record.proofs.Tests.{and-made, Pass, all-every, every-all}

@@ -2,7 +2,8 @@
 use mathlib.Core.Path.{_≡_, refl, sym, ap, _∙_}
 use mathlib.Core.Bool.{Bool, true, false, true≢false}
 use native.Mathlib.Omega.{arith}
-use Rattle.model.specs.{Job.Job, Sheet.accepted, Sheet.readSheet, Answer.leave, Answer.runSheet, Accepted.Sound}
+use Rattle.model.specs.{Job.Job, Sheet.accepted, Sheet.readSheet, Accepted.Sound}
+use Rattle.model_run.specs.{Whole.leave, Whole.runSheet}
 use Rattle.model_sheet.specs.Sheet.{sheetText}
 use Rattle.model_sheet.proofs.{Sheet.exactly, Short.short as sheet-short}
 use Rattle.model_record.specs.Data.{JobRecord}

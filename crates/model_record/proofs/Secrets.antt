@@ -14,7 +14,7 @@ use Rattle.model.proofs.Accepted.{every-replicate}
 use Rattle.model_text.specs.Text.{pairs}
 use Rattle.model_text.proofs.Bytes.{every-imply, every-made-from}
 use Rattle.model_sheet.specs.Sheet.{dummyIn}
-use Rattle.read_text.proofs.Laws.{and-both}
+use Rattle.model_text.proofs.TextLaws.{and-both}
 use Rattle.model_record.specs.Data.{SecretRecord}
 use Rattle.model_record.specs.Record.{rising, entersAll, secretKey, secretFits, secretsFit, secretPair, secretRecord, secretRecords, keysOf}
 use Rattle.model_record.proofs.Tests.{and-made, Pass, all-every, every-all}

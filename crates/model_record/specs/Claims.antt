@@ -5,7 +5,8 @@ use mathlib.Core.{Path._≡_, Logic._↔_}
 use mathlib.Core.Bool.{true, false}
 use mathlib.Core.List.{List}
 use lib.ListN.{length}
-use Rattle.model.specs.{Job.Job, Sheet.accepted, Sheet.readSheet, Answer.leftBy, Answer.runSheet, Run.runJob, Accepted.Every}
+use Rattle.model.specs.{Job.Job, Sheet.accepted, Sheet.readSheet, Accepted.Every}
+use Rattle.model_run.specs.{Whole.leftBy, Whole.runSheet, Run.runJob}
 use Rattle.model_sheet.specs.Claims.{longestSheet}
 use Rattle.model_record.specs.Data.{MessageRecord, JobRecord}
 use Rattle.model_record.specs.Record.{keyPlaces, commandPlaces, messagePlaces, letterPlaces, said, passes, jobIn, textOf, recordOver}

@@ -3,7 +3,7 @@ use Prim.Native.Nat.{ℕ}
 use mathlib.Core.Path.{_≡_}
 use mathlib.Core.List.{List, [], _∷_}
 use lib.{IntN.ℤ, IntN.pos, ListN.replicate, ListN.set}
-use Rattle.model.specs.{Text.bytes, Examples.sheetA, Witness.job1}
+use Rattle.model.specs.{Text.bytes, SheetA.sheetA, SheetA.job1}
 use Rattle.model_record.specs.Data.{SecretRecord, CommandRecord, EntryRecord, MessageRecord, JobRecord}
 use Rattle.model_record.specs.Record.{keyPlaces, commandPlaces, messagePlaces, letterPlaces, Said, said, textOf, recordOver}
 use Rattle.model_record.specs.Entry.{saved, writeRecord, readEntry}

@@ -4,8 +4,8 @@ use Prim.Native.Nat.{ℕ, _+_, _-_}
 use mathlib.Core.List.{List, [], _∷_, map}
 use mathlib.Core.Bool.{Bool, true, false, cond, _&&_, _||_}
 use lib.{IntN.ℤ, Signed.mag, Dec.eqb, Dec.leb, Dec.ltb, ListN.length, ListN.take, ListN.set, ListN.replicate}
-use Rattle.model.specs.{Limits.formNumber, Limits.variables, Limits.greatestNumber, Text.between, Arith.isZero, Command.table, Form.formOf}
-use Rattle.model.specs.{Accepted.rowAt, Accepted.placeOf, Accepted.has, Job.Job, Stored.levelOf, Placed.front}
+use Rattle.model.specs.{Limits.formNumber, Limits.variables, Limits.greatestNumber, Text.between, Number.isZero, Command.table, Form.formOf, Accepted.rowAt}
+use Rattle.model.specs.{Accepted.placeOf, Accepted.has, Job.Job, Stored.levelOf, Placed.front}
 use Rattle.model.specs.declared.{Form.Form, Entry.Entry, Key.Key, Command.Command, Operand.Operand}
 use Rattle.model.specs.declared.Entry.the-variants.{Absent, Number}
 use Rattle.model.specs.declared.Key.the-variants.{Open, Secret}

@@ -12,7 +12,7 @@ use Rattle.model.specs.Command.{Row, Limits, table, blank, operand, operands, r
 use Rattle.model.specs.declared.{Command.Command, Operand.Operand}
 use Rattle.model.specs.declared.Operand.the-variants.{InV, InW, InK, InT, InN}
 use Rattle.model.proofs.{Parsed.never, Parsed.bind-got, Accepted.row-command}
-use Rattle.read_text.proofs.Lines.{same-eq}
+use Rattle.model_text.proofs.LineLaws.{same-eq}
 use Rattle.model_text.specs.Text.{joined, operandText, operandTexts, commandText}
 use Rattle.model_text.proofs.{Numbers.Small, Commands.replaced}
 use Rattle.model_sheet.proofs.{Passed.got-is, Passed.when-got, Numbers.up-to-back, Numbers.whole-back, Texts.joined-split}

@@ -1,6 +1,6 @@
 -- The examples hold: antt computes each.
 use mathlib.Core.Path.{refl}
-use Rattle.model.specs.{Text.bytes, Command.table, Accepted.rowFor, Examples.sheetA}
+use Rattle.model.specs.{Text.bytes, Command.table, Accepted.rowFor, SheetA.sheetA}
 use Rattle.model.specs.Decimal.{digits, widthTo, width, natural, whole}
 use Rattle.model_text.specs.Text.{joined, unlines, named, pairText, pairs, messageText, messageLines, operandText, commandText, commandLines}
 use Rattle.model_sheet.specs.Sheet.{headLines, secretLines, turnsLines, sheetText}

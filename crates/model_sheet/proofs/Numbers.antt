@@ -10,7 +10,7 @@ use Rattle.model.specs.{Parsed.got, Text.classOf, Number.digits as readDigits, 
 use Rattle.model.specs.{Number.negative, Number.positive, Number.number, Limits.greatestNumber, Limits.leastNumber}
 use Rattle.model.specs.{Decimal.digits, Decimal.widthTo, Decimal.width, Decimal.natural, Decimal.whole}
 use Rattle.model.proofs.{Parsed.never, Parsed.bind-got, Parsed.need-got, Decimal.tens, Decimal.tens-last, Accepted.up-to-bound, Accepted.from-one-bound}
-use Rattle.read_text.proofs.Laws.{class-digit}
+use Rattle.model_text.proofs.TextLaws.{class-digit}
 use Rattle.model_text.proofs.Numbers.{Small}
 use Rattle.model_sheet.proofs.Passed.{got-is, when-got, unless-got}
 

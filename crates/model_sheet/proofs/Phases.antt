@@ -7,8 +7,8 @@ use Rattle.model.specs.{Parsed.Parsed, Parsed._>>_, Parsed._>>=_, Text.same, Te
 use Rattle.model.specs.Phase.{Phase, got, after, numbered, one, onward, eachLine, many, oneMore}
 use Rattle.model.specs.Parsed as Parsed
 use Rattle.model.proofs.{Parsed.bind-got, Parsed.need-got, Accepted.from-one-bound}
-use Rattle.read_text.proofs.Laws.{from-one-ok}
-use Rattle.read_text.proofs.Lines.{same-eq}
+use Rattle.model_text.proofs.TextLaws.{from-one-ok}
+use Rattle.model_text.proofs.LineLaws.{same-eq}
 use Rattle.model_text.specs.Text.{named}
 use Rattle.model_text.proofs.{Bytes.Free, Numbers.Small, Numbers.natural-read, Phases.never, Phases.after-own}
 use Rattle.model_sheet.proofs.{Passed.got-is, Numbers.from-one-back, Texts.divide-back}

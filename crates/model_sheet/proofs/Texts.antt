@@ -7,7 +7,7 @@ use native.Mathlib.Omega.{arith}
 use lib.{Dec.eqb, Dec.ltb, ListN.length, ListN.getD, ListN.take, ListN.drop, Seq.split-at}
 use borrow.Author.Tests.{eqb-true, ltb-true}
 use Rattle.model.specs.{Parsed.got, Text.find, Text.divide, Text.split, Text.grow, Text.init, Text.lines, Text.lineFeed, Sheet.closed}
-use Rattle.read_text.proofs.Lines.{split-some}
+use Rattle.model_text.proofs.LineLaws.{split-some}
 use Rattle.model_text.specs.Text.{joined, unlines}
 use Rattle.model_sheet.proofs.Passed.{got-is, when-got}
 

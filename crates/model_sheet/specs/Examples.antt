@@ -3,7 +3,7 @@ use mathlib.Core.Path.{_≡_}
 use mathlib.Core.List.{List, [], _∷_}
 use Prim.Native.Nat.{ℕ}
 use lib.IntN.{pos, negsuc}
-use Rattle.model.specs.{Text.bytes, Examples.sheetA, Job.Job, Witness.job1}
+use Rattle.model.specs.{Text.bytes, SheetA.sheetA, Job.Job, SheetA.job1}
 use Rattle.model.specs.declared.Entry.the-variants.{Absent, Number}
 use Rattle.model.specs.declared.Key.the-variants.{Open, Secret}
 use Rattle.model.specs.declared.Op.the-variants.{Set, Add, IfNeg}

@@ -11,3 +11,5 @@ pub mod Opening
 pub mod Lines
 pub mod Pasted
 pub mod Replaced
+pub mod LineLaws
+pub mod TextLaws

@@ -9,8 +9,8 @@ use borrow.Author.Tests.{eq-eqb, ne-eqb, lt-ltb, ltb-true, ltb-false, le-leb}
 use Rattle.model.specs.{Parsed.got, Text.classOf, Number.digits as readDigits, Number.natural as readNatural, Number.within, Number.upTo, Number.positive, Number.number}
 use Rattle.model.specs.{Limits.greatestNumber, Limits.leastNumber, Decimal.digits, Decimal.widthTo, Decimal.width, Decimal.natural, Decimal.whole}
 use Rattle.model.specs.Accepted.{InRange}
-use Rattle.model.proofs.{Line.digits-length, Decimal.tens, Decimal.tens-last}
-use Rattle.read_text.proofs.Laws.{digit-class, negative-ok, positive-ok}
+use Rattle.model.proofs.{Decimal.digits-length, Decimal.tens, Decimal.tens-last}
+use Rattle.model_text.proofs.TextLaws.{digit-class, negative-ok, positive-ok}
 use Rattle.model_text.proofs.Bytes.{Spans, spans-wider, every-append}
 
 -- ---- Digits

@@ -9,7 +9,7 @@ use Rattle.model.specs.{Parsed.Parsed, Parsed.need, Parsed._>>_, Parsed._>>=_, 
 use Rattle.model.specs.{Phase.numbered, Phase.one, Phase.onward, Phase.eachLine, Phase.many, Phase.oneMore, Phase.some, Accepted.Every}
 use Rattle.model.specs.Parsed as Parsed
 use Rattle.model.proofs.Parsed.{never as never-got}
-use Rattle.read_text.proofs.Lines.{same-refl, more-ok}
+use Rattle.model_text.proofs.LineLaws.{same-refl, more-ok}
 use Rattle.model_text.specs.Text.{named}
 use Rattle.model_text.proofs.{Bytes.Free, Texts.divide-past}
 

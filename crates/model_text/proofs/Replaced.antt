@@ -11,7 +11,7 @@ use Rattle.model.specs.{Messages.messageLine as readMessage, Sheet.accepted, Sh
 use Rattle.model.specs.Accepted.{Every, Within, Bare}
 use Rattle.model.specs.declared.{Form.Form, Key.Key, Entry.Entry, Command.Command}
 use Rattle.model.proofs.Accepted.{accepted-sound, every-both}
-use Rattle.read_text.proofs.Lines.{lines-none, lines-more, starts-split, starts-take, after-other}
+use Rattle.model_text.proofs.LineLaws.{lines-none, lines-more, starts-split, starts-take, after-other}
 use Rattle.model_text.specs.{Text.named, Text.commandText, Text.commandLine, Text.commandLines}
 use Rattle.model_text.specs.Pasted.{withCommands, startsDo, CutAtProgram, ProgramPasted}
 use Rattle.model_text.proofs.{Bytes.Spans, Bytes.every-made, Bytes.every-imply, Bytes.every-last, Numbers.Small, Texts.lines-closed, Texts.closed-lines}

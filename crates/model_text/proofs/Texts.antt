@@ -9,7 +9,7 @@ use lib.Seq.{append-snoc, drop-cons}
 use borrow.Author.Tests.{eq-eqb, ne-eqb, lt-ltb, le-leb}
 use Rattle.model.specs.{Parsed.got, Text.free, Text.find, Text.divide, Text.split, Text.grow, Text.init, Text.lines, Text.classOf, Text.between, Text.lineFeed, Text.equalsSign}
 use Rattle.model.specs.{Text.forbiddenClass, Sheet.forbiddenLine, Sheet.closed, Accepted.Every}
-use Rattle.read_text.proofs.Lines.{split-some}
+use Rattle.model_text.proofs.LineLaws.{split-some}
 use Rattle.model_text.specs.Text.{joined, prefixed, unlines, named}
 use Rattle.model_text.proofs.Bytes.{Between, Spans, Free, every-append, every-instead, every-imply}
 

@@ -8,7 +8,7 @@ use lib.ListN.{length}
 use Rattle.model.specs.{Text.bytes, Text.lines, Limits.mostBytes, Limits.mostCommands, Limits.mostMessages, Job.Job, Sheet.accepted, Sheet.readSheet, Sheet.closed}
 use Rattle.model.specs.Accepted.{Every, Full, Within, Bare}
 use Rattle.model.specs.declared.{Entry.Entry, Command.Command}
-use Rattle.read_text.specs.Text.{starts}
+use Rattle.model_text.specs.Found.{starts}
 use Rattle.model_text.specs.Text.{messageLines, commandLines}
 
 -- a job with more messages behind its own

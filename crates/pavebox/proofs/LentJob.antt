@@ -21,7 +21,7 @@ use Rattle.model_record.proofs.JobRecord.Laws as J′
 use Rattle.pavebox.specs.declared.Opening.{Opening}
 use Rattle.pavebox.proofs.Opening as S
 use Rattle.pavebox.proofs.Opening.Laws as S′
-use Rattle.pavebox.proofs.Lent.{Data, Related}
+use Rattle.lent.proofs.Lent.{Data, Related}
 
 abbrev pub job : Data
 job = record { type = J.the-type; laws = J′.the-laws; plain = J′.the-plain; copy = J′.the-copy }

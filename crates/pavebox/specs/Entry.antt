@@ -2,7 +2,8 @@
 use Prim.Native.Nat.{ℕ}
 use mathlib.Core.Path.{_≡_}
 use mathlib.Core.List.{List}
-use Rattle.model.specs.Answer.{After, runEntry}
+use Rattle.model.specs.Answer.{After}
+use Rattle.model_run.specs.Whole.{runEntry}
 use Rattle.model_log.specs.Log.{logEntry}
 use Rattle.model_blocks.specs.Dialect.{blocksEntry}
 use Rattle.model_record.specs.declared.JobRecord.{JobRecord}

@@ -10,7 +10,7 @@ use Rattle.model.specs.declared.Command.{Command}
 use Rattle.model_blocks.specs.Block.{Block, testTo, jumpTo, _then_}
 use Rattle.model_blocks.specs.Dialect.{BlockWord, elseWord, endWord, otherWord, tested, inIf, Standing, adding, opening, deepest}
 use Rattle.model_blocks.specs.Dialect as Dialect
-use Rattle.read_text.proofs.Lines.{lines-none, lines-more}
+use Rattle.model_text.proofs.LineLaws.{lines-none, lines-more}
 use Rattle.read_command.specs.{Code.codeOf, Command.partsAfter}
 use Rattle.read_command.proofs.Words.{Bytes, bytes-take}
 use Rattle.pack_command.specs.Pack.{commandNumber}

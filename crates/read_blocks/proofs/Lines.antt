@@ -12,7 +12,7 @@ use Rattle.model.specs.declared.Command.{Command}
 use Rattle.model_blocks.specs.Block.{Block, own, empty, _then_}
 use Rattle.model_blocks.specs.Dialect.{BlockWord, ifWord, elseWord, whileWord, endWord, otherWord, blockWord, ownCommand, tested, alone, Opener, inIf, inElse, inWhile, OpenBlock}
 use Rattle.model_blocks.specs.Dialect.{Standing, adding, opening, deepest, onOpening, onElse, closedBlock, onEnd, lineBy, blockLine, tree, refused, atLine, readFrom}
-use Rattle.read_text.proofs.Lines.{split-some}
+use Rattle.model_text.proofs.LineLaws.{split-some}
 use Rattle.read_command.specs.Command.{partsAfter}
 use Rattle.read_command.proofs.Laws.{split-word, parts-none, parts-behind, behind}
 use Rattle.read_blocks.specs.Blocks.{nextLine, LineAt, NoMore, reading, RefusedFrom, openerWord}

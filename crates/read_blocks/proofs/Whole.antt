@@ -6,8 +6,8 @@ use native.Mathlib.Omega.{arith}
 use borrow.Author.Tests.{le-leb, lt-leb}
 use Rattle.model.specs.{Limits.mostKeys, Text.lines}
 use Rattle.model_blocks.specs.{Block._then_, Dialect.elseWord, Dialect.endWord, Dialect.nothingOpen, Dialect.refused, Dialect.readFrom, Dialect.readBlocks}
-use Rattle.read_text.specs.Text.{spoiltLine}
-use Rattle.read_text.proofs.Laws.{text-spoilt, text-whole}
+use Rattle.model_text.specs.Found.{spoiltLine}
+use Rattle.model_text.proofs.TextLaws.{text-spoilt, text-whole}
 use Rattle.read_blocks.specs.Blocks.{LineAt, reading, RefusedFrom, Goes, NoMore, ProgramRead}
 use Rattle.read_blocks.specs.declared.Mark.{Mark}
 use Rattle.read_blocks.specs.declared.Translated.the-variants.{Got}

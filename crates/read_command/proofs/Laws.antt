@@ -12,7 +12,7 @@ use Rattle.model.specs.{Command.readCommand}
 use Rattle.model.specs.declared.{Op.Op, Command.Command, Operand.Operand}
 use Rattle.model.specs.declared.Operand.the-variants.{InV, InW, InK, InT, InN}
 use Rattle.model.proofs.Accepted.{up-to-bound}
-use Rattle.read_text.proofs.{Laws.rest, Lines.split-end, Lines.split-at, Lines.split-some}
+use Rattle.model_text.proofs.{TextLaws.rest, LineLaws.split-end, LineLaws.split-at, LineLaws.split-some}
 use Rattle.read_command.specs.{Code.saidBy, Code.lookup, Command.shapeAs, Command.single, Command.halves, Command.cutAt, Command.oneOf, Command.twoOf}
 use Rattle.read_command.specs.{Command.mapped, Command.commandOf, Command.withNumber, Command.partsAfter, Command.byWord}
 use Rattle.read_command.specs.declared.Shape.{Shape}

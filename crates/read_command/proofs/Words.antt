@@ -7,7 +7,7 @@ use native.Mathlib.{Numerals.add-one, Omega.arith, Decide.decLt, Nat.mod-eq-of-l
 use lib.{Dec.eqb, Dec.ltb, Dec.leb, ListN.length, ListN.getD, ListN.take, Seq.take-suc, Seq.length-take-le}
 use borrow.Author.Tests.{eq-eqb, ne-eqb, lt-ltb, le-ltb, ltb-true, leb-true}
 use Rattle.model.specs.{Parsed.got, Parsed.refused, Parsed._>>=_, Text.bytes, Text.same, Command.Row, Command.table, Command.rowOf}
-use Rattle.read_text.proofs.{Laws.and-both, Lines.same-refl, Lines.same-eq}
+use Rattle.model_text.proofs.{TextLaws.and-both, LineLaws.same-refl, LineLaws.same-eq}
 use Rattle.read_command.specs.Code.{longestWord, sixBytes, packed, withCount, codeOf, saidBy, lookup, lookupCode}
 
 -- ---- Packing a word, byte by byte

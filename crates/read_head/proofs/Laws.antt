@@ -5,7 +5,7 @@ use Prim.Native.Nat.{ℕ, _+_, _≤_}
 use lib.{IntN.ℤ, ListN.set}
 use Rattle.model.specs.{Parsed.got, Parsed.refused, Text.bytes, Stored.keyIn, Pair.pair, Head.secretLine, Text.free}
 use Rattle.model.specs.declared.{Key.the-variants.Secret, KeySlot.KeySlot}
-use Rattle.read_text.specs.Text.{Word}
+use Rattle.model_text.specs.Found.{Word}
 use Rattle.read_pair.specs.Pair.{byKey}
 use Rattle.read_pair.proofs.Laws.{part-bad, part-ok}
 

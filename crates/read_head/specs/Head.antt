@@ -2,7 +2,7 @@
 use mathlib.Core.List.{List}
 use Prim.Native.Nat.{ℕ, _≤_}
 use Rattle.model.specs.{Number.fromOne, Phase.one, Head.readSecrets, Stored.keyIn}
-use Rattle.read_text.specs.Text.{Word}
+use Rattle.model_text.specs.Found.{Word}
 use Rattle.read_line.specs.Phase.{Reads}
 use Rattle.read_pair.specs.Pair.{byKey}
 use Rattle.read_head.specs.declared.{NumberLine.NumberLine, Secrets.Secrets}

@@ -9,8 +9,8 @@ use Rattle.model.specs.{Parsed.Parsed, Parsed.got, Parsed.refused, Parsed._>>=_
 use Rattle.model.specs.{Phase.many, Phase.oneMore, Phase.numbered, Phase.onward, Phase.eachLine}
 use Rattle.model.specs.Phase as Model
 use Rattle.model.proofs.{Parsed.never, Stored.map-more}
-use Rattle.read_text.specs.Text.{starts, Word}
-use Rattle.read_text.proofs.Lines.{more-full, more-bad, more-ok, lines-none, lines-more, line-none, line-first, starts-take, after-named, after-other}
+use Rattle.model_text.specs.Found.{starts, Word}
+use Rattle.model_text.proofs.LineLaws.{more-full, more-bad, more-ok, lines-none, lines-more, line-none, line-first, starts-take, after-named, after-other}
 use Rattle.read_line.specs.Phase.{beside, headed, foundAs, FeedInside, FirstLine, Reads}
 use Rattle.read_line.specs.declared.Found.{Found}
 use Rattle.read_line.specs.declared.Found.the-variants.{At, Other}

@@ -5,7 +5,7 @@ use Prim.Native.Nat.{ℕ, _+_, _-_, _<_, _≤_}
 use lib.ListN.{length, take, drop}
 use Rattle.model.specs.{Parsed.Parsed, Parsed.got, Parsed.refused, Parsed._>>=_, Text.lines}
 use Rattle.model.specs.Phase as Model
-use Rattle.read_text.specs.Text.{Word}
+use Rattle.model_text.specs.Found.{Word}
 use Rattle.read_line.specs.declared.{Found.Found, Checked.Checked, Phase.Phase}
 use Rattle.read_line.specs.declared.Found.the-variants.{At, Other}
 use Rattle.read_line.specs.declared.Checked.the-variants.{Got as LineGot, Refused as LineRefused}

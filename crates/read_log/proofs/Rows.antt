@@ -9,7 +9,7 @@ use Rattle.model.specs.{Parsed.Parsed, Parsed.got, Parsed.refused, Parsed.need,
 use Rattle.model.proofs.Parsed.{never}
 use Rattle.model_log.specs.Log as Log
 use Rattle.model_log.specs.Log.{Row, ended, unfinished, rows, carriageReturn, spoils, clean, fields}
-use Rattle.read_text.proofs.Lines.{split-some}
+use Rattle.model_text.proofs.LineLaws.{split-some}
 use Rattle.read_log.specs.Log.{scan}
 
 -- ---- A row that the scan finds: its text, and what is behind its end

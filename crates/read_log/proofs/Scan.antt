@@ -7,7 +7,7 @@ use lib.ListN.{length, getD, drop}
 use borrow.Author.Tests.{eq-eqb, ne-eqb}
 use Rattle.model.specs.{Parsed.got, Parsed.refused, Text.comma, Text.lineFeed}
 use Rattle.model_log.specs.Log.{carriageReturn, quoteMark}
-use Rattle.read_text.proofs.Laws.{uncons, done}
+use Rattle.model_text.proofs.TextLaws.{uncons, done}
 use Rattle.read_log.specs.Log.{scan}
 
 -- fewer than two bytes are left

@@ -7,8 +7,8 @@ use lib.{IntN.ℤ, ListN.length, ListN.take, ListN.drop, ListN.set}
 use Rattle.model.specs.{Parsed.got, Parsed.refused, Text.bytes, Text.comma, Text.find, Text.split, Pair.ByKey, Pair.pair, Messages.allAbsent, Messages.parts, Text.free}
 use Rattle.model.specs.{Messages.message, Messages.messageLine, Stored.entryIn, Stored.firstOf}
 use Rattle.model.specs.declared.{Entry.Entry, Entry.the-variants.Number, EntrySlot.EntrySlot}
-use Rattle.read_text.specs.Text.{Word}
-use Rattle.read_text.proofs.Lines.{parts-some, parts-last, parts-more}
+use Rattle.model_text.specs.Found.{Word}
+use Rattle.model_text.proofs.LineLaws.{parts-some, parts-last, parts-more}
 use Rattle.read_pair.specs.Pair.{byKey}
 use Rattle.read_pair.proofs.Laws.{part-bad, part-ok}
 

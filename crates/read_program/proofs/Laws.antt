@@ -9,7 +9,7 @@ use Rattle.model.specs.{Text.bytes, Text.lines, Command.limits, Command.readCom
 use Rattle.model.specs.{Program.readCommands, Sheet.targets, Stored.commandCapacity}
 use Rattle.model.specs.Phase as Model
 use Rattle.model.specs.declared.{Form.Form, Command.Command}
-use Rattle.read_text.specs.Text.{Word}
+use Rattle.model_text.specs.Found.{Word}
 use Rattle.read_line.specs.Phase.{Reads}
 use Rattle.read_program.specs.Program.{FirstFar}
 use Rattle.read_line.specs.declared.Phase.the-variants.{Got, Refused}

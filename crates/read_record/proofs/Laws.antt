@@ -12,7 +12,7 @@ use Rattle.model.specs.{Limits.greatestNumber, Stored.firstOf}
 use Rattle.model.proofs.Stored.{first-set, first-same, map-more}
 use Rattle.model_record.specs.Record.{all, rising, entersAll, inRange, secretFits}
 use Rattle.model_record.specs.declared.SecretRecord.{SecretRecord}
-use Rattle.read_text.proofs.Laws.{and-both}
+use Rattle.model_text.proofs.TextLaws.{and-both}
 
 -- ---- What is left of the elements that the count covers
 

@@ -8,7 +8,7 @@ use Rattle.model.specs.{Limits.formNumber, Form.formOne, Form.formOf, Text.betw
 use Rattle.model.specs.Stored.{nothingStored}
 use Rattle.model_record.specs.Record.{all, letterFits, countsFit, passes, jobIn}
 use Rattle.model_record.specs.declared.JobRecord.{JobRecord}
-use Rattle.read_text.proofs.Laws.{and-both, between-in}
+use Rattle.model_text.proofs.TextLaws.{and-both, between-in}
 use Rattle.read_record.specs.Read.{SecretsTaken, CommandsTaken, MessagesTaken, Takes}
 use Rattle.read_record.specs.declared.{Keys.Keys, Commands.Commands, Messages.Messages, Taken.Taken}
 

@@ -10,11 +10,11 @@ use lib.{IntN.ℤ, IntN.pos, IntN.negsuc, Dec.eqb, Dec.leb, Dec.ltb, ListN.lengt
 use Rattle.model.specs.{Command.Row, Command.table, Accepted.rowAt, Accepted.has, Stored.keyCapacity}
 use Rattle.model.specs.declared.{Operand.Operand, Op.the-variants.Stop}
 use Rattle.model.specs.declared.Operand.the-variants.{InV, InW, InK, InT, InN}
-use Rattle.model.specs.Arith.{isZero}
+use Rattle.model.specs.Number.{isZero}
 use Rattle.model_record.specs.Record.{limitOf, inRange, commandFits, commandOf}
 use Rattle.model_record.specs.declared.CommandRecord.{CommandRecord}
 use Rattle.model_record.proofs.Commands.{command-fitting}
-use Rattle.read_text.proofs.Laws.{and-both}
+use Rattle.model_text.proofs.TextLaws.{and-both}
 use Rattle.read_record.specs.Read.{LimitsAt, Narrow}
 use Rattle.read_record.specs.declared.Limits.{Limits}
 use Rattle.read_record.proofs.Laws.{in-range}

@@ -10,8 +10,8 @@ use Rattle.model.specs.{Head.readFirst, Head.readKeys, Head.readSecrets, Progra
 use Rattle.model.specs.{Sheet.accepted, Sheet.refused, Sheet.next, Sheet.targets, Sheet.readBody, Sheet.readLines, Sheet.readSheet}
 use Rattle.model.specs.Phase as Model
 use Rattle.model.specs.declared.{Form.Form, Entry.Entry, Key.Key, Command.Command, Level.Level}
-use Rattle.read_text.specs.Text.{Word, spoiltLine}
-use Rattle.read_text.proofs.Laws.{text-spoilt, text-whole}
+use Rattle.model_text.specs.Found.{Word, spoiltLine}
+use Rattle.model_text.proofs.TextLaws.{text-spoilt, text-whole}
 use Rattle.read_line.specs.Phase.{Reads, Ahead, phaseAs}
 use Rattle.read_line.specs.declared.Phase.{Phase}
 use Rattle.read_line.specs.declared.Phase.the-variants.{Got, Refused}

@@ -1,4 +1,2 @@
--- The laws of texts that the crates above cite: Laws on bytes and numbers, Lines on the lines of a text.
+-- Numbers with a sign, as the code has them.
 pub mod Signed
-pub mod Laws
-pub mod Lines

@@ -7,7 +7,8 @@ ghost use Prim.Native.Nat.{_<_, min};
 ghost use lib.{Dec.leb, ListN.length};
 ghost use Rattle.model.specs.{Text.between as Text·between, Text.classOf, Text.find, Number.digitsTo, Number.upTo, Number.fromOne, Number.negative, Number.positive, Number.number};
 ghost use Rattle.model.specs.Sheet.{closed};
-ghost use Rattle.read_text.specs.Text.{naturalAs, wholeAs, forbids, spoiltLine, starts};
+ghost use Rattle.read_text.specs.Text.{naturalAs, wholeAs};
+ghost use Rattle.model_text.specs.Found.{forbids, spoiltLine, starts};
 
 // The class that a scan asks for.
 const FORBIDDEN_CLASS: u8 = 10;

@@ -9,8 +9,8 @@ use borrow.Author.Tests.{eq-eqb, ne-eqb, lt-leb, le-leb}
 use Rattle.model.specs.{Parsed.Parsed, Parsed.got, Parsed.refused, Parsed._>>=_, Text.bytes, Text.find, Text.lineFeed, Phase.Phase, Phase.one, Text.free}
 use Rattle.model.specs.{Turns.letter, Turns.letters, Turns.turnsLine, Turns.nothingAfter, Turns.readTurns, Stored.levelOf, Form.Fits}
 use Rattle.model.specs.declared.{Form.Form, Level.Level}
-use Rattle.read_text.specs.Text.{Word}
-use Rattle.read_text.proofs.{Laws.uncons, Laws.done, Lines.lines-none, Lines.lines-more}
+use Rattle.model_text.specs.Found.{Word}
+use Rattle.model_text.proofs.{TextLaws.uncons, TextLaws.done, LineLaws.lines-none, LineLaws.lines-more}
 use Rattle.read_line.specs.Phase.{Reads}
 use Rattle.read_line.specs.declared.Phase.the-variants.{Got, Refused}
 use Rattle.model.proofs.Stored.{map-more}

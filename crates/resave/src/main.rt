@@ -18,10 +18,10 @@ fn main() {
     let mut output = [0u8; LONGEST_SHEET];
     match input::text_argument(&mut sheet, 1) {
         Text::Got(n) => {
-            show::resave_and_print(&sheet[..n], &mut output);
+            show_record::resave_and_print(&sheet[..n], &mut output);
         }
         Text::TooLong => {
-            show::resave_and_print(&sheet, &mut output);
+            show_record::resave_and_print(&sheet, &mut output);
         }
         Text::Failed => complain(b"the sheet could not be read\n"),
         Text::Misused => complain(b"usage: resave [SHEET]\n"),

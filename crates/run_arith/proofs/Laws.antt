@@ -7,9 +7,10 @@ use native.Mathlib.{Nat.mul-le-mul, Nat.div-le-self, Nat.sub-le, Nat.le-refl, Na
 use lib.{IntN.ℤ, IntN.pos, IntN.negsuc, IntN.negℤ, IntN.subℕ, IntN._+ℤ_, IntN._-ℤ_, IntN._*ℤ_, Dec.T, Dec.ltb, Dec.lit<, Signed.mag, Signed.ltZ, Signed.quotZ}
 use borrow.Author.Tests.{ltb-false}
 use mir.{Syntax.w32, Syntax.w64, Val.SFits, Val.toZ, Val.ofZ, Facts.sfits-widen, Facts.toZ-ofZ}
-use Rattle.model.specs.{Limits.greatestNumber, Arith.clamp, Arith.outside, Arith.clampsBy, Arith.computed, Arith.quotient, Arith.byZero, Arith.isZero, Arith.least, Arith.greatest}
+use Rattle.model.specs.{Limits.greatestNumber, Number.isZero}
+use Rattle.model_run.specs.{Arith.clamp, Arith.outside, Arith.clampsBy, Arith.computed, Arith.quotient, Arith.byZero, Arith.least, Arith.greatest}
 use Rattle.model.specs.declared.Computed.{Computed}
-use Rattle.model.proofs.Clamped.{mag-negpos}
+use Rattle.model_run.proofs.Clamped.{mag-negpos}
 
 -- a cast to a wider signed type
 module _ {z : ℤ} (fits : SFits w32 z) where

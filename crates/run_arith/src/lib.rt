@@ -3,7 +3,7 @@ use model::Computed;
 use model::GREATEST_NUMBER;
 use model::LEAST_NUMBER;
 ghost use mathlib.Core.Path.{_≡_};
-ghost use Rattle.model.specs.Arith.{clamp as Arith·clamp, computed as Arith·computed, sum, difference, product, quotient};
+ghost use Rattle.model_run.specs.Arith.{clamp as Arith·clamp, computed as Arith·computed, sum, difference, product, quotient};
 
 // The two ends of the range.
 const LEAST: i64 = 0 - LEAST_NUMBER as i64;

@@ -7,18 +7,18 @@ use mathlib.Core.List.{List, [], _∷_, _++_, append-assoc}
 use native.Mathlib.{Omega.arith, Nat.zero-add, Nat.mul-le-mul}
 use lib.{Dec.leb, Dec.ltb, ListN.length, ListN.getD, ListN.drop, ListN.replicate}
 use borrow.Author.Tests.{lt-leb, le-leb}
-use Rattle.model.specs.{Step.begun, Step.callOf, Stored.levelOf, Stored.jobOf, Stored.held, Stored.keyCapacity, Stored.messageCapacity, Stored.letterCapacity, Line.Sent}
-use Rattle.model.specs.{Line.lineLength, Line.lineBytes, Line.bytesOf, Line.memoryAfter, Process.Process, Process.command, Process.stopped, Process.fresh, State.role}
-use Rattle.model.specs.{State.started, State.ticked, State.State, State.process, Verdict.GoesOn, Verdict.Ends, Verdict.Verdict, Verdict.short, Verdict.allUsed}
-use Rattle.model.specs.{Verdict.lacking, Verdict.noRoom, Verdict.verdictBy, Verdict.verdict, Run.turn, Run.ended, Run.runBy, Run.run, Run.initial, Run.runJobBy, Run.runJob}
-use Rattle.model.specs.{Answer.left, Answer.leftBy}
-use Rattle.model.specs.State as State
+use Rattle.model.specs.{Execution.begun, Stored.levelOf, Stored.jobOf, Stored.held, Stored.keyCapacity, Stored.messageCapacity, Stored.letterCapacity}
+use Rattle.model_run.specs.{Step.callOf, Line.Sent, Line.lineLength, Line.lineBytes, Line.bytesOf, Line.memoryAfter, Process.Process, Process.command, Process.stopped}
+use Rattle.model_run.specs.{Process.fresh, State.role, State.started, State.ticked, State.State, State.process, Verdict.GoesOn, Verdict.Ends, Verdict.Verdict}
+use Rattle.model_run.specs.{Verdict.short, Verdict.allUsed, Verdict.lacking, Verdict.noRoom, Verdict.verdictBy, Verdict.verdict, Run.turn, Run.ended, Run.runBy}
+use Rattle.model_run.specs.{Run.run, Run.initial, Run.runJobBy, Run.runJob, Whole.left, Whole.leftBy}
+use Rattle.model_run.specs.State as State
 use Rattle.model.specs.declared.{Entry.the-variants.Absent, Field.Field, Key.Key, Command.Command, Level.Level, Execution.Execution, Clock.Clock}
 use Rattle.model.specs.declared.{Ending.Ending, Answer.Answer, Answer.the-variants.Ended, StoredJob.StoredJob}
 use Rattle.model.specs.declared.Ending.the-variants.{Stopped, LettersUsed}
 use Rattle.model.specs.declared.Call.the-variants.{Neither, Receives, Sends}
 use Rattle.model.specs.declared.Level.the-variants.{Low, High}
-use Rattle.model.proofs.{Line.bytes-length, Counted.Reached, Counted.reached-first, Counted.turn-reached, Turn.turn-clock, Turn.Counter, Turn.clamped}
+use Rattle.model_run.proofs.{Line.bytes-length, Counted.Reached, Counted.reached-first, Counted.turn-reached, Turn.turn-clock, Turn.Counter, Turn.clamped}
 use Rattle.run_message.specs.Message.{Cleared}
 use Rattle.run_message.proofs.Laws.{cleared-held}
 use Rattle.run_verdict.specs.Verdict.{CountsFit, countsAs}

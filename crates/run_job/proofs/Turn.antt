@@ -6,19 +6,21 @@ use mathlib.Core.List.{List, [], _∷_, _++_, append-nil}
 use native.Mathlib.{Nat.add-zero, Numerals.add-one, Omega.arith, Decide.decLt}
 use lib.{IntN.ℤ, Dec.ltb, Dec.leb, ListN.length, ListN.getD, ListN.drop, ListN.set, ListN.drop-of-length-le, Seq.drop-cons}
 use borrow.Author.Tests.{lt-ltb, le-ltb, lt-leb, le-leb}
-use Rattle.model.specs.{Step.variable, Step.afterOf, Step.calledOf, Step.effectOf, Step.Stepped, Step.steppedBy, Step.does, Step.callOf, Step.callsBy, Stored.keysIn}
-use Rattle.model.specs.{Stored.entriesIn, Stored.side, Stored.withSide, Stored.held, Stored.absentField, Stored.kindOf, Stored.kindsIn, Stored.jobOf, Line.Sent}
-use Rattle.model.specs.{Line.lineLength, Line.lineBytes, Line.bytesOf, Process.Process, Process.entry, Process.stored, Process.step, Process.command, Process.stopped}
-use Rattle.model.specs.{Process.refill, State.Role, State.leads, State.follows, State.role, State.put, State.each, State.takenOf, State.takes, State.sends, State.ticked}
-use Rattle.model.specs.{State.State, State.process, State.fieldsOf, State.withProcess, Message.source, Message.received, Message.receive, Message.columns, Message.lineNow}
-use Rattle.model.specs.{Message.send, Verdict.kindAt, Verdict.waits, Verdict.idles, Run.waitsAt, Run.counted, Run.turn}
-use Rattle.model.specs.State as State
+use Rattle.model_run.specs.{Step.variable, Step.effectOf, Step.Stepped, Step.steppedBy, Step.does, Step.callOf, Line.Sent, Line.lineLength, Line.lineBytes}
+use Rattle.model_run.specs.{Line.bytesOf, Process.Process, Process.entry, Process.stored, Process.step, Process.command, Process.stopped, Process.refill, State.Role}
+use Rattle.model_run.specs.{State.leads, State.follows, State.role, State.put, State.each, State.takenOf, State.takes, State.sends, State.ticked, State.State}
+use Rattle.model_run.specs.{State.process, State.fieldsOf, State.withProcess, Message.source, Message.received, Message.receive, Message.columns, Message.lineNow}
+use Rattle.model_run.specs.{Message.send, Verdict.kindAt, Verdict.waits, Verdict.idles, Run.waitsAt, Run.counted, Run.turn}
+use Rattle.model.specs.{Execution.afterOf, Execution.calledOf, Execution.callsBy, Stored.keysIn, Stored.entriesIn, Stored.side, Stored.withSide, Stored.held}
+use Rattle.model.specs.{Stored.absentField, Stored.kindOf, Stored.kindsIn, Stored.jobOf}
+use Rattle.model_run.specs.State as State
 use Rattle.model.specs.declared.{Entry.Entry, Entry.the-variants.Absent, Effect.Effect, Field.Field, Key.Key, Command.Command, Call.Call, Level.Level, Execution.Execution}
 use Rattle.model.specs.declared.{Clock.Clock, MessageLine.MessageLine, StoredJob.StoredJob}
 use Rattle.model.specs.declared.Call.the-variants.{Neither, Receives, Sends}
 use Rattle.model.specs.declared.Level.the-variants.{Low, High}
-use Rattle.model.proofs.{Levels.leads-not-follows, Stored.map-more, Stored.map-at}
-use Rattle.model.proofs.Turn.{Alone, idlesAt, callAt, turn-alone, turn-idle, turn-receive, turn-send}
+use Rattle.model_run.proofs.{Levels.leads-not-follows}
+use Rattle.model.proofs.{Stored.map-more, Stored.map-at}
+use Rattle.model_run.proofs.Turn.{Alone, idlesAt, callAt, turn-alone, turn-idle, turn-receive, turn-send}
 use Rattle.run_step.proofs.Laws.{changedBy, changed-is}
 use Rattle.run_message.specs.Message.{receivedBy}
 use Rattle.run_message.proofs.Laws.{held-set, held-same}

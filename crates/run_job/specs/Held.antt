@@ -2,7 +2,8 @@
 use Prim.Native.Nat.{ℕ}
 use mathlib.Core.List.{List}
 use lib.ListN.{drop}
-use Rattle.model.specs.{Process.Process, Line.Sent, State.State, Stored.held, Stored.kindsIn, Stored.jobOf}
+use Rattle.model_run.specs.{Process.Process, Line.Sent, State.State}
+use Rattle.model.specs.{Stored.held, Stored.kindsIn, Stored.jobOf}
 use Rattle.model.specs.declared.{Field.Field, Level.Level, Execution.Execution, Clock.Clock, StoredJob.StoredJob}
 use Rattle.model.specs.declared.Level.the-variants.{Low, High}
 

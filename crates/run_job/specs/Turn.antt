@@ -3,7 +3,8 @@ use Prim.Native.Nat.{ℕ}
 use mathlib.Core.Path.{_≡_}
 use mathlib.Core.List.{List, [], _∷_, _++_}
 use lib.ListN.{length, drop}
-use Rattle.model.specs.{Line.Sent, Stored.jobOf, Line.bytesOf, Verdict.Verdict, Verdict.GoesOn, Verdict.Ends, Verdict.verdict, Run.turn}
+use Rattle.model_run.specs.{Line.Sent, Line.bytesOf, Verdict.Verdict, Verdict.GoesOn, Verdict.Ends, Verdict.verdict, Run.turn}
+use Rattle.model.specs.{Stored.jobOf}
 use Rattle.model.specs.declared.{Level.Level, StoredJob.StoredJob}
 use Rattle.model.specs.Placed.{placed}
 use Rattle.run_job.specs.Held.{Held, stateOf}

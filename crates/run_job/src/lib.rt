@@ -29,7 +29,8 @@ use write_line::key_cell;
 use write_line::line_end;
 ghost use mathlib.Core.Path.{_≡_};
 ghost use lib.ListN.{length};
-ghost use Rattle.model.specs.{Run.runJob, Answer.left, Answer.leftBy, Stored.jobOf, Stored.Stored, Accepted.Sound};
+ghost use Rattle.model_run.specs.{Run.runJob, Whole.left, Whole.leftBy};
+ghost use Rattle.model.specs.{Stored.jobOf, Stored.Stored, Accepted.Sound};
 
 // A job that reading gave, with an output memory.
 //

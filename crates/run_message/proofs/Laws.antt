@@ -7,7 +7,8 @@ use native.Mathlib.{Omega.arith, Nat.le-of-suc-le-suc, Nat.not-suc-le-zero, Nume
 use lib.{ListN.length, ListN.getD, ListN.take, ListN.drop, ListN.set, ListN.replicate, ListN.length-map, ListN.length-replicate, ListN.getD-replicate, Seq.take-suc}
 use lib.{Seq.take-suc-set, Seq.take-all, Seq.map-set-same}
 use Rattle.model.specs.{Stored.keyCapacity, Stored.firstOf, Stored.keyIn, Stored.entryIn, Stored.keysIn, Stored.side, Stored.held, Stored.openSlot, Stored.absentSlot}
-use Rattle.model.specs.{Stored.absentField, Message.shown, Message.fill}
+use Rattle.model.specs.{Stored.absentField}
+use Rattle.model_run.specs.{Message.shown, Message.fill}
 use Rattle.run_message.specs.Message.{fieldOf, receivedBy, ReceivedTo, Cleared}
 use Rattle.model.proofs.Stored.{map-set, first-set, first-same, first-at, first-count}
 use Rattle.model.specs.declared.{Entry.Entry, Field.Field, Key.Key, Level.Level, KeySlot.KeySlot, EntrySlot.EntrySlot}

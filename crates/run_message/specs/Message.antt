@@ -4,7 +4,8 @@ use mathlib.Core.Path.{_≡_}
 use mathlib.Core.Bool.{Bool, cond}
 use mathlib.Core.List.{List}
 use lib.ListN.{take, replicate}
-use Rattle.model.specs.{Message.shown, Message.fill, Stored.keyCapacity, Stored.firstOf, Stored.side, Stored.absentField}
+use Rattle.model_run.specs.{Message.shown, Message.fill}
+use Rattle.model.specs.{Stored.keyCapacity, Stored.firstOf, Stored.side, Stored.absentField}
 use Rattle.model.specs.declared.{Entry.Entry, Entry.the-variants.Absent, Field.Field, Key.Key, Level.Level}
 use Rattle.model.specs.declared.Level.the-variants.{Low, High}
 

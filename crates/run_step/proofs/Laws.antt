@@ -4,7 +4,8 @@ use mathlib.Core.Path.{_≡_, refl, ap, ap₂, _∙_}
 use mathlib.Core.Bool.{cond}
 use mathlib.Core.List.{List, [], _∷_}
 use lib.{IntN.ℤ, IntN.pos, IntN.negsuc, ListN.getD, ListN.set}
-use Rattle.model.specs.{Arith.isZero, Step.variable, Step.callsBy, Step.afterOf}
+use Rattle.model.specs.{Number.isZero, Execution.callsBy, Execution.afterOf}
+use Rattle.model_run.specs.{Step.variable}
 use Rattle.model.specs.declared.{Call.Call, Effect.Effect, Execution.Execution}
 
 set-back : (xs : List ℤ) (v : ℕ) (z d : ℤ) → set xs v (getD (set xs v z) v d) ≡ set xs v z

@@ -14,7 +14,8 @@ ghost use mathlib.Core.Path.{_≡_};
 ghost use mathlib.Core.Bool.{cond};
 ghost use Prim.Native.Nat.{_<_, _≤_};
 ghost use lib.{IntN.pos, Signed.ltZ};
-ghost use Rattle.model.specs.{Limits.variables, Arith.isZero, Step.variable, Step.numberOf, Step.presence, Step.made as Effect·made, Step.computes as Effect·computes, Step.effectOf, Step.callOf};
+ghost use Rattle.model.specs.{Limits.variables, Number.isZero};
+ghost use Rattle.model_run.specs.{Step.variable, Step.numberOf, Step.presence, Step.made as Effect·made, Step.computes as Effect·computes, Step.effectOf, Step.callOf};
 
 // A variable's or a key's number, as an index.
 pub fn index(x: u8) -> usize

@@ -10,7 +10,8 @@ ghost use mathlib.Core.Path.{_≡_};
 ghost use mathlib.Core.Bool.{cond};
 ghost use Prim.Native.Nat.{_+_, _<_, _≤_};
 ghost use lib.Dec.{ltb};
-ghost use Rattle.model.specs.{Verdict.waits as Verdict·waits, Stored.levelOf, Stored.kindOf, State.role, State.stepsBy, State.started as Clock·started, State.ticked as Clock·ticked};
+ghost use Rattle.model_run.specs.{Verdict.waits as Verdict·waits, State.role, State.stepsBy, State.started as Clock·started, State.ticked as Clock·ticked};
+ghost use Rattle.model.specs.{Stored.levelOf, Stored.kindOf};
 ghost use Rattle.model.specs.declared.{Answer.the-variants.Ended, Call.the-variants.Neither};
 ghost use Rattle.run_verdict.specs.Verdict.{CountsFit, countsAs};
 

@@ -3,7 +3,8 @@ use Prim.Native.Nat.{ℕ}
 use mathlib.Core.Path.{_≡_}
 use mathlib.Core.List.{List}
 use lib.ListN.{length}
-use Rattle.model.specs.{Answer.leftBy, Answer.runSheet, Job.Job, Sheet.accepted, Sheet.refused, Sheet.readSheet, Run.runJob}
+use Rattle.model_run.specs.{Whole.leftBy, Whole.runSheet, Run.runJob}
+use Rattle.model.specs.{Job.Job, Sheet.accepted, Sheet.refused, Sheet.readSheet}
 use Rattle.model.specs.declared.Answer.the-variants.{Refused}
 
 pub accepted-left : (s o : List ℕ) (j : Job) → readSheet s ≡ accepted j → runSheet s o ≡ leftBy o (runJob j (length o))

@@ -4,7 +4,7 @@ use read_sheet::Status;
 use read_sheet::read_sheet;
 use run_job::run_job;
 ghost use mathlib.Core.Path.{_≡_};
-ghost use Rattle.model.specs.Answer.{left, runSheet};
+ghost use Rattle.model_run.specs.Whole.{left, runSheet};
 
 // Runs a sheet on an output memory. Any bytes at all are taken.
 pub fn run_sheet(sheet: &[u8], output: &mut [u8]) -> Answer

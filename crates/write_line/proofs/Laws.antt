@@ -4,11 +4,12 @@ use mathlib.Core.List.{List, [], _∷_, _++_, append-assoc}
 use Prim.Native.Nat.{ℕ, zero, suc, _+_, _-_, _*_, _≤_, _<_}
 use native.Mathlib.{Omega.arith, Nat.le-of-suc-le-suc, Nat.not-suc-le-zero, Nat.add-zero, Nat.zero-add, Numerals.add-one}
 use lib.{ListN.length, ListN.getD, ListN.drop, ListN.set, ListN.replicate, ListN.length-append, ListN.drop-of-length-le, Seq.drop-cons}
-use Rattle.model.specs.{Text.lineFeed, Text.space, Text.dot, Placed.placed, Stored.keyIn, Stored.keysIn, Stored.side, Stored.held, Stored.openSlot, Stored.absentField, Message.source}
-use Rattle.model.specs.{Message.columns, Line.cell, Line.cells, Line.heading, Line.lineBytes}
+use Rattle.model.specs.{Text.lineFeed, Text.space, Text.dot, Placed.placed, Stored.keyIn, Stored.keysIn, Stored.side, Stored.held, Stored.openSlot, Stored.absentField}
+use Rattle.model_run.specs.{Message.source, Message.columns, Line.cell, Line.cells, Line.heading, Line.lineBytes}
 use Rattle.model.specs.declared.{Entry.Entry, Entry.the-variants.Absent, Field.Field, Key.Key, Key.the-variants.Open, Level.Level, KeySlot.KeySlot}
 use Rattle.model.specs.declared.Level.the-variants.{Low, High}
-use Rattle.model.proofs.{Line.cell-length, Line.cells-length, Line.heading-length, Stored.first-at, Stored.first-count}
+use Rattle.model_run.proofs.{Line.cell-length, Line.cells-length, Line.heading-length}
+use Rattle.model.proofs.{Stored.first-at, Stored.first-count}
 use Rattle.model.proofs.Placed.{placed-append, placed-nil, placed-cons, placed-next}
 use Rattle.write_line.specs.Line.{columnsIn, lineOf}
 

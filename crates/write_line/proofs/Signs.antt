@@ -4,7 +4,8 @@ use mathlib.Core.Bool.{true, false, true≢false}
 use native.Mathlib.Omega.{arith}
 use lib.{IntN.ℤ, IntN.pos, IntN.negsuc, Signed.ltZ}
 use borrow.Author.Tests.{ltb-true}
-use Rattle.model.specs.{Text.plus, Text.minus, Line.sign}
+use Rattle.model.specs.{Text.plus, Text.minus}
+use Rattle.model_run.specs.{Line.sign}
 
 pub sign-neg : (z : ℤ) → ltZ z (pos 0) ≡ true → minus ≡ sign z
 unfolding sign

@@ -1,7 +1,8 @@
 -- A sent line, of what the code's arrays hold.
 use Prim.Native.Nat.{ℕ}
 use mathlib.Core.List.{List}
-use Rattle.model.specs.{Message.columns, Line.Sent, Stored.keysIn, Stored.held}
+use Rattle.model_run.specs.{Message.columns, Line.Sent}
+use Rattle.model.specs.{Stored.keysIn, Stored.held}
 use Rattle.model.specs.declared.{Entry.Entry, Field.Field, KeySlot.KeySlot}
 
 -- the entry of each of n keys

@@ -9,8 +9,8 @@ ghost use mathlib.Core.Path.{_≡_};
 ghost use mathlib.Core.List.{_∷_};
 ghost use Prim.Native.Nat.{_+_, _*_, _≤_, _<_};
 ghost use lib.{ListN.length, ListN.set, ListN.replicate, IntN.natAbs};
-ghost use Rattle.model.specs.{Text.lineFeed, Text.space, Text.dot, Message.source, Decimal.digits, Placed.placed, Line.sign as Output·sign, Line.cell as Output·cell};
-ghost use Rattle.model.specs.{Line.heading as Output·heading, Stored.side, Stored.keyCapacity};
+ghost use Rattle.model.specs.{Text.lineFeed, Text.space, Text.dot, Decimal.digits, Placed.placed, Stored.side, Stored.keyCapacity};
+ghost use Rattle.model_run.specs.{Message.source, Line.sign as Output·sign, Line.cell as Output·cell, Line.heading as Output·heading};
 
 fn sign(x: i32) -> u8
     ensures { λ r. ⌜ r ≡ Output·sign x ⌝ }

@@ -9,7 +9,8 @@ use lib.{IntN.natAbs, Signed.ltZ}
 use borrow.Author.Tests.{lt-ltb, le-ltb}
 use Rattle.model.specs.{Placed.placed, Decimal.widthTo, Decimal.width, Decimal.mostDigits, Decimal.natural, Decimal.whole, Written.text, Written.written}
 use Rattle.model.specs.Written.{write}
-use Rattle.model.proofs.{Placed.placed-nil, Placed.placed-append, Placed.placed-length, Placed.placed-front, Decimal.tens, Decimal.tens-last, Decimal.tens-most, Line.digits-length, Written.write-fits}
+use Rattle.model.proofs.{Placed.placed-nil, Placed.placed-append, Placed.placed-length, Placed.placed-front, Decimal.tens, Decimal.tens-last, Decimal.tens-most}
+use Rattle.model.proofs.{Decimal.digits-length, Written.write-fits}
 use Rattle.write_text.specs.Put.{Put, Room, signed}
 
 -- a text, and another behind it

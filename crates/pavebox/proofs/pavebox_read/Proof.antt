@@ -39,7 +39,7 @@ use Rattle.pavebox.specs.declared.Opening.{Opening}
 use Rattle.pavebox.specs.Entry.{ReadAnswered}
 use Rattle.pavebox.proofs.Opening as S
 use Rattle.pavebox.proofs.Opening.Laws as S′
-use Rattle.pavebox.proofs.Lent.{mach, Related, typed, spelled, mine, opened, closed, TripleOf, asks, away, concludes}
+use Rattle.lent.proofs.Lent.{mach, Related, typed, spelled, mine, opened, closed, TripleOf, asks, away, concludes}
 use Rattle.pavebox.proofs.LentJob.{job, step, after-is, number-fits, in-memory}
 use Rattle.pavebox.proofs.read_into as g
 use Rattle.pavebox.proofs.read_into.Symbol as g-def

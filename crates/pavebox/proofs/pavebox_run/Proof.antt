@@ -4,7 +4,8 @@ use mathlib.Core.List.{List}
 use Prim.Native.Nat.{ℕ}
 use borrow.Author.Needs.{needs}
 use lib.ListN.{getD}
-use Rattle.model.specs.Answer.{Left, numbersOf, allLe32, numberCount, answeredBy, runSheet, runEntry}
+use Rattle.model_run.specs.Whole.{Left, answeredBy, runSheet, runEntry}
+use Rattle.model.specs.Answer.{numbersOf, allLe32, numberCount}
 use Rattle.pavebox.proofs.Laws.{entered-sized, entered-other, leaves}
 use Rattle.pavebox.proofs.pavebox_run.Statement.{statement}
 use Rattle.pavebox.proofs.pavebox_run.Tie as tie

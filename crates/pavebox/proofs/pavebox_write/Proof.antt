@@ -35,7 +35,7 @@ use Rattle.model_record.specs.declared.JobRecord.{JobRecord}
 use Rattle.model_record.specs.Claims.{Shaped}
 use Rattle.model_record.proofs.JobRecord as J
 use Rattle.pavebox.specs.Entry.{WriteAnswered}
-use Rattle.pavebox.proofs.Lent.{mach, Related, typed, mine, looked, shut, TripleOf, asks, away, concludes}
+use Rattle.lent.proofs.Lent.{mach, Related, typed, mine, looked, shut, TripleOf, asks, away, concludes}
 use Rattle.pavebox.proofs.LentJob.{job, in-memory}
 use Rattle.pavebox.proofs.write_into as g
 use Rattle.pavebox.proofs.write_into.Symbol as g-def

@@ -9,7 +9,7 @@ use borrow.Fn.Kinds.{In}
 use borrow.Fn.PlainCycle.{Measures, is, falls, and}
 use lib.{ListN.length, ListN.take, ListN.drop, Seq.length-take-le}
 use Rattle.model_blocks.specs.Dialect.{otherWord}
-use Rattle.read_text.proofs.Laws.{rest}
+use Rattle.model_text.proofs.TextLaws.{rest}
 use Rattle.read_blocks.specs.Blocks.{saidAs, nextLine, Sane, LineAt, Goes, ItemRead, NestedRead, StoppedAt, OtherRead, OwnAsked}
 use Rattle.read_blocks.specs.declared.{LineWord.LineWord, Close.Close, Item.Item}
 use Rattle.read_blocks.proofs.Goes.{goes-none, goes-more, goes-as, refuses-after, other-on}

@@ -6,7 +6,7 @@ use borrow.Author.Needs.{needs}
 use Rattle.model.specs.declared.Form.{Form}
 use Rattle.model.specs.Limits.{mostKeys}
 use Rattle.model_blocks.specs.Dialect.{refused}
-use Rattle.read_text.specs.Text.{spoiltLine}
+use Rattle.model_text.specs.Found.{spoiltLine}
 use Rattle.read_blocks.specs.Blocks.{StoppedAt, ProgramRead}
 use Rattle.read_blocks.specs.declared.Close.{Close}
 use Rattle.read_blocks.proofs.Items.{stopped-as}

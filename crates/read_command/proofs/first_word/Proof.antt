@@ -6,7 +6,7 @@ use mathlib.Core.List.{List}
 use Prim.Native.Nat.{ℕ, _≤_, _+_, _-_, _<_, _*_}
 use lib.ListN.{length, drop, take}
 use Rattle.model.specs.Text.{find, space}
-use Rattle.read_text.proofs.Laws.{find-here, find-next, find-end}
+use Rattle.model_text.proofs.TextLaws.{find-here, find-next, find-end}
 use Rattle.read_command.specs.Code.{longestWord, sixBytes, withCount, codeOf}
 use Rattle.read_command.proofs.Words.{Packed, packed-none, packed-next, code-at}
 use Rattle.read_command.proofs.first_word.Statement.{statement}

@@ -7,7 +7,7 @@ use lib.{IntN.ℤ, ListN.length, ListN.take, ListN.drop}
 use mir.{Syntax.w32, Val.toZ, Val.ofZ, ValLaws.toZ-ofZ}
 use Rattle.model.specs.{Parsed.got, Text.bytes, Pair.pair, Head.secretLine, Head.allOpen, Head.readSecrets, Stored.keyCapacity, Stored.keyIn, Stored.openSlot}
 use Rattle.model.proofs.Accepted.{keys-rise}
-use Rattle.read_text.proofs.Laws.{rest}
+use Rattle.model_text.proofs.TextLaws.{rest}
 use Rattle.read_line.proofs.Laws.{Going, feed-inside, going-on, going-left, going-bad, going-bound, going-more}
 use Rattle.read_pair.specs.Pair.{pairAs, byKey}
 use Rattle.read_pair.proofs.Laws.{by-key-blank}

@@ -3,7 +3,7 @@ use mathlib.Core.Path.{_∙_, sym, ap}
 use native.Mathlib.Omega.{arith}
 use borrow.Author.{Needs.needs, Tests.not-true, Tests.not-false}
 use lib.ListN.{length, length-drop}
-use Rattle.read_text.proofs.Laws.{rest, starts-length}
+use Rattle.model_text.proofs.TextLaws.{rest, starts-length}
 use Rattle.read_line.proofs.Laws.{headed-other, headed-short, headed-at}
 use Rattle.read_line.proofs.first_line.Statement.{statement}
 use Rattle.read_line.proofs.first_line.Tie as tie

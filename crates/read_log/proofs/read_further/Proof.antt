@@ -11,7 +11,7 @@ use Rattle.model_log.specs.Log as Log
 use Rattle.model_log.specs.Log.{keyCount, rows, messageRow, further}
 use Rattle.read_line.specs.Phase.{checkedAs}
 use Rattle.read_line.specs.declared.Checked.{Checked}
-use Rattle.read_text.proofs.Laws.{rest}
+use Rattle.model_text.proofs.TextLaws.{rest}
 use Rattle.read_log.specs.Log.{Ahead, LogRead}
 use Rattle.read_log.specs.declared.Status.the-variants.{Refused}
 use Rattle.read_log.proofs.Further.{none-left, one-too-many, row-refused, row-more}

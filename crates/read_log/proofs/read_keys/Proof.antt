@@ -9,7 +9,7 @@ use Rattle.model.specs.{Parsed.got, Parsed.refused, Text.comma, Text.split, Num
 use Rattle.model.proofs.Accepted.{up-to-bound, every-set, every-replicate}
 use Rattle.model_log.specs.Log.{keyCount, greatestKey, keyNumbers}
 use Rattle.read_text.specs.Text.{naturalAs}
-use Rattle.read_text.proofs.{Laws.rest, Lines.find-le, Lines.parts-some, Lines.parts-last, Lines.parts-more}
+use Rattle.model_text.proofs.{TextLaws.rest, LineLaws.find-le, LineLaws.parts-some, LineLaws.parts-last, LineLaws.parts-more}
 use Rattle.read_line.specs.declared.Checked.the-variants.{Refused}
 use Rattle.read_log.specs.Log.{KeysHeld, KeysRead}
 use Rattle.read_log.specs.declared.Keys.{Keys}

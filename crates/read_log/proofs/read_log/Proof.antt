@@ -7,7 +7,7 @@ use Rattle.model.specs.{Parsed.got, Parsed.refused, Text.comma, Text.split}
 use Rattle.model_log.specs.Log.{keyNumbers}
 use Rattle.read_line.specs.Phase.{checkedAs}
 use Rattle.read_line.specs.declared.Checked.{Checked}
-use Rattle.read_text.proofs.Laws.{rest}
+use Rattle.model_text.proofs.TextLaws.{rest}
 use Rattle.read_log.specs.Log.{scan, rowAs}
 use Rattle.read_log.proofs.{Rows.First, Rows.scan-first, Further.log-faulty, Further.log-keys-bad, Further.log-keys}
 use Rattle.read_log.proofs.read_log.Statement.{statement}

@@ -9,7 +9,7 @@ use Rattle.model.specs.{Parsed.got, Text.comma, Text.split, Stored.keyCapacity,
 use Rattle.model.specs.declared.Entry.the-variants.{Absent}
 use Rattle.model.proofs.{Accepted.every-at, Stored.first-same}
 use Rattle.model_log.specs.Log.{keyCount, field, entries}
-use Rattle.read_text.proofs.{Laws.rest, Lines.find-le, Lines.parts-some, Lines.parts-last, Lines.parts-more}
+use Rattle.model_text.proofs.{TextLaws.rest, LineLaws.find-le, LineLaws.parts-some, LineLaws.parts-last, LineLaws.parts-more}
 use Rattle.read_log.specs.Log.{fieldAs}
 use Rattle.read_log.proofs.Fields.{entry-bad, entry-next, entries-end}
 use Rattle.read_log.proofs.read_row.Statement.{statement}

@@ -8,7 +8,7 @@ use mir.{Syntax.w32, Val.toZ, Val.ofZ, ValLaws.toZ-ofZ}
 use Rattle.model.specs.{Parsed.got, Text.comma, Text.split, Pair.pair, Messages.allAbsent, Messages.parts, Messages.message, Stored.keyCapacity, Stored.entryIn}
 use Rattle.model.specs.{Stored.absentSlot}
 use Rattle.model.proofs.Accepted.{keys-rise}
-use Rattle.read_text.proofs.{Laws.rest, Lines.find-le}
+use Rattle.model_text.proofs.{TextLaws.rest, LineLaws.find-le}
 use Rattle.read_pair.specs.Pair.{pairAs, byKey}
 use Rattle.read_pair.proofs.Laws.{by-key-blank}
 use Rattle.read_messages.proofs.Laws.{message-empty, message-parts, line-bad, line-ok, turn-bad, turn-last, turn-more}

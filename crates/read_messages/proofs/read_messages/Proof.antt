@@ -6,7 +6,7 @@ use native.Mathlib.Omega.{arith}
 use borrow.Author.Needs.{needs}
 use lib.ListN.{length, length-set, take, drop}
 use Rattle.model.specs.{Text.bytes, Phase.oneMore, Messages.messageLine, Messages.readMessages, Stored.messageCapacity, Stored.entriesIn}
-use Rattle.read_text.proofs.Laws.{rest}
+use Rattle.model_text.proofs.TextLaws.{rest}
 use Rattle.read_line.specs.Phase.{checkedAs}
 use Rattle.read_line.specs.declared.Checked.{Checked}
 use Rattle.read_line.proofs.Laws.{Going, feed-inside, going-on, going-left, going-bad, going-bound, going-more, array-full, array-bad, array-ok}

@@ -7,7 +7,7 @@ use lib.{ListN.take, ListN.drop, Seq.length-take-le}
 use mir.{Syntax.w32, ValLaws.toZ-ofZ}
 use Rattle.model.specs.{Number.number, Number.upTo, Parsed.got}
 use Rattle.read_text.specs.Text.{naturalAs, wholeAs}
-use Rattle.read_text.proofs.Laws.{rest}
+use Rattle.model_text.proofs.TextLaws.{rest}
 use Rattle.read_pair.proofs.Laws.{pair-no-colon, pair-key-bad, pair-order, pair-value-bad, pair-ok}
 use Rattle.read_pair.proofs.read_pair.Statement.{statement}
 use Rattle.read_pair.proofs.read_pair.Tie as tie

@@ -6,7 +6,7 @@ use native.Mathlib.Omega.{arith}
 use borrow.Author.Needs.{needs}
 use lib.ListN.{length, length-set, take, drop}
 use Rattle.model.specs.{Text.bytes, Command.limits, Command.readCommand, Phase.oneMore, Stored.commandCapacity}
-use Rattle.read_text.proofs.Laws.{rest}
+use Rattle.model_text.proofs.TextLaws.{rest}
 use Rattle.read_line.proofs.Laws.{Going, feed-inside, going-on, going-left, going-bad, going-bound, going-more, array-full, array-bad, array-ok}
 use Rattle.read_command.specs.Command.{lineAs}
 use Rattle.read_program.proofs.Laws.{do-word, itself, commands-refused, commands-none, commands-some}

@@ -6,7 +6,7 @@ use native.Mathlib.Omega.{arith}
 use borrow.Author.Needs.{needs}
 use lib.{ListN.length, Seq.length-take-le}
 use Rattle.model.specs.{Stored.jobOf, Limits.mostBytes}
-use Rattle.read_text.proofs.Laws.{rest}
+use Rattle.model_text.proofs.TextLaws.{rest}
 use Rattle.read_sheet.proofs.Laws.{answers, from, reached, bounded, stop-commands, stop-messages, stop-turns, body-read}
 use Rattle.read_sheet.proofs.read_body.Statement.{statement}
 use Rattle.read_sheet.proofs.read_body.Tie as tie

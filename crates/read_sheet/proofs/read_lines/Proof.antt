@@ -8,7 +8,7 @@ use lib.ListN.{length}
 use Rattle.model.specs.{Limits.mostBytes, Form.Fits}
 use Rattle.model.specs.declared.Form.{Form}
 use Rattle.model.proofs.Forms.{every-form-fits}
-use Rattle.read_text.proofs.Laws.{rest}
+use Rattle.model_text.proofs.TextLaws.{rest}
 use Rattle.read_pair.specs.Pair.{byKey}
 use Rattle.read_sheet.proofs.Laws.{answers, from, first-phase, keys-phase, reached, bounded, stop-first, stop-keys, stop-secrets, heads-read}
 use Rattle.read_sheet.proofs.read_lines.Statement.{statement}

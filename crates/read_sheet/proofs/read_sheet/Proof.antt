@@ -2,7 +2,7 @@
 use mathlib.Core.Path.{sym}
 use native.Mathlib.Omega.{arith}
 use borrow.Author.Needs.{needs}
-use Rattle.read_text.proofs.Laws.{spoilt-most}
+use Rattle.model_text.proofs.TextLaws.{spoilt-most}
 use Rattle.read_sheet.proofs.Laws.{answers, sheet-long, sheet-spoilt, sheet-lines}
 use Rattle.read_sheet.proofs.read_sheet.Statement.{statement}
 use Rattle.read_sheet.proofs.read_sheet.Tie as tie

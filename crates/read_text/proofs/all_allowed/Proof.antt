@@ -6,8 +6,8 @@ use native.Mathlib.Omega.{arith}
 use borrow.Author.Needs.{needs}
 use borrow.Author.Tests.{le-leb, lt-leb}
 use lib.ListN.{length, take, drop}
-use Rattle.read_text.specs.Text.{forbids}
-use Rattle.read_text.proofs.Laws.{forbids-end, part-forbids, part-allowed}
+use Rattle.model_text.specs.Found.{forbids}
+use Rattle.model_text.proofs.TextLaws.{forbids-end, part-forbids, part-allowed}
 use Rattle.read_text.proofs.all_allowed.Statement.{statement}
 use Rattle.read_text.proofs.all_allowed.Tie as tie
 

@@ -6,7 +6,7 @@ use native.Mathlib.Omega.{arith}
 use borrow.Author.Needs.{needs}
 use borrow.Author.Tests.{not-true, not-false}
 use Rattle.model.specs.Text.{classOf}
-use Rattle.read_text.proofs.Laws.{between-in, between-out, between-less, digit-class, small-class, capital-class, other-class, below-class, above-class}
+use Rattle.model_text.proofs.TextLaws.{between-in, between-out, between-less, digit-class, small-class, capital-class, other-class, below-class, above-class}
 use Rattle.read_text.proofs.class_of.Statement.{statement}
 use Rattle.read_text.proofs.class_of.Tie as tie
 

@@ -5,7 +5,7 @@ use native.Mathlib.Omega.{arith}
 use borrow.Author.Needs.{needs}
 use lib.ListN.{length, drop, getD}
 use Rattle.model.specs.Number.{digitsTo}
-use Rattle.read_text.proofs.Laws.{class-digit, digit-class, digits-next, digits-bad, digits-end, digits-past}
+use Rattle.model_text.proofs.TextLaws.{class-digit, digit-class, digits-next, digits-bad, digits-end, digits-past}
 use Rattle.read_text.proofs.digits_up_to.Statement.{statement}
 use Rattle.read_text.proofs.digits_up_to.Tie as tie
 

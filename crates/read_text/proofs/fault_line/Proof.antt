@@ -7,8 +7,8 @@ use native.Mathlib.Omega.{arith}
 use borrow.Author.Needs.{needs}
 use lib.ListN.{length, drop}
 use Rattle.model.specs.{Sheet.forbiddenLine, Sheet.closed, Text.count}
-use Rattle.read_text.proofs.Laws.{line-end, line-forbidden, line-feed, line-same, count-here, count-next, count-end, closed-empty, last-closed, last-open}
-use Rattle.read_text.proofs.Laws.{spoilt-forbidden, spoilt-none, spoilt-open}
+use Rattle.model_text.proofs.TextLaws.{line-end, line-forbidden, line-feed, line-same, count-here, count-next, count-end, closed-empty, last-closed, last-open}
+use Rattle.model_text.proofs.TextLaws.{spoilt-forbidden, spoilt-none, spoilt-open}
 use Rattle.read_text.proofs.fault_line.Statement.{statement}
 use Rattle.read_text.proofs.fault_line.Tie as tie
 

@@ -1,5 +1,5 @@
 -- What is passed and what is still to search make up the place.
-use Rattle.read_text.proofs.Laws.{find-here, find-next, find-later, find-end}
+use Rattle.model_text.proofs.TextLaws.{find-here, find-next, find-later, find-end}
 use Rattle.model.specs.Text.{find}
 use lib.ListN.{length, drop}
 use native.Mathlib.Omega.{arith}

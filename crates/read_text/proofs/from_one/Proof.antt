@@ -1,6 +1,6 @@
 -- A number from 1: the cases of what is read up to the limit.
 use Rattle.read_text.specs.Text.{naturalAs}
-use Rattle.read_text.proofs.Laws.{from-one-bad, from-one-zero, from-one-ok}
+use Rattle.model_text.proofs.TextLaws.{from-one-bad, from-one-zero, from-one-ok}
 use native.Mathlib.Omega.{arith}
 use mathlib.Core.Path.{_∙_, sym, ap}
 use borrow.Author.Needs.{needs}

@@ -6,8 +6,8 @@ use mathlib.Core.Path.{_≡_, refl, sym, _∙_}
 use native.Mathlib.Omega.{arith}
 use borrow.Author.Needs.{needs}
 use lib.ListN.{length, drop}
-use Rattle.read_text.specs.Text.{forbids}
-use Rattle.read_text.proofs.Laws.{forbids-end, forbids-here, forbids-next}
+use Rattle.model_text.specs.Found.{forbids}
+use Rattle.model_text.proofs.TextLaws.{forbids-end, forbids-here, forbids-next}
 use Rattle.read_text.proofs.has_forbidden.Statement.{statement}
 use Rattle.read_text.proofs.has_forbidden.Tie as tie
 

@@ -2,7 +2,7 @@
 use mathlib.Core.Path.{sym}
 use native.Mathlib.Omega.{arith}
 use borrow.Author.Needs.{needs}
-use Rattle.read_text.proofs.Laws.{closed-empty, closed-last}
+use Rattle.model_text.proofs.TextLaws.{closed-empty, closed-last}
 use Rattle.read_text.proofs.is_closed.Statement.{statement}
 use Rattle.read_text.proofs.is_closed.Tie as tie
 

@@ -1,7 +1,8 @@
 -- A number from 1 to the least's magnitude, negated by way of an i64.
 use Rattle.model.specs.{Limits.leastNumber, Number.upTo, Parsed.got}
 use mir.{Syntax.w64, ValLaws.toZ-ofZ}
-use Rattle.read_text.proofs.{Signed.negated, Signed.fits64, Signed.fits32, Signed.back, Laws.negative-bad, Laws.negative-zero, Laws.negative-ok}
+use Rattle.read_text.proofs.{Signed.negated, Signed.fits64, Signed.fits32, Signed.back}
+use Rattle.model_text.proofs.{TextLaws.negative-bad, TextLaws.negative-zero, TextLaws.negative-ok}
 use Rattle.model.proofs.Accepted.{up-to-bound}
 use Rattle.read_text.specs.Text.{naturalAs}
 use native.Mathlib.Omega.{arith}

@@ -1,6 +1,6 @@
 -- Nothing, a minus sign, or a number without one.
 use Rattle.model.specs.Number.{negative}
-use Rattle.read_text.proofs.Laws.{rest, number-empty, number-minus, number-plain}
+use Rattle.model_text.proofs.TextLaws.{rest, number-empty, number-minus, number-plain}
 use mathlib.Core.Path.{_∙_, sym, ap}
 use borrow.Author.Needs.{needs}
 use Rattle.read_text.proofs.number_of.Statement.{statement}

@@ -3,7 +3,7 @@ use Rattle.model.specs.{Limits.greatestNumber, Number.upTo, Parsed.got}
 use Rattle.read_text.specs.Text.{naturalAs}
 use mir.{ValLaws.toZ-pos, Syntax.w32}
 use Rattle.model.proofs.Accepted.{up-to-bound}
-use Rattle.read_text.proofs.Laws.{positive-bad, positive-ok}
+use Rattle.model_text.proofs.TextLaws.{positive-bad, positive-ok}
 use native.Mathlib.Omega.{arith}
 use Prim.Native.Nat.{_≤_}
 use mathlib.Core.Path.{_≡_, _∙_, sym, ap}

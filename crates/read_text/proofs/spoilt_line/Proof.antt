@@ -4,8 +4,8 @@ use mathlib.Core.Bool.{not}
 use lib.{Dec.leb, ListN.length}
 use borrow.Author.Needs.{needs}
 use borrow.Author.Tests.{not-true}
-use Rattle.read_text.specs.Text.{forbids}
-use Rattle.read_text.proofs.Laws.{and-both, allowed-line, spoilt-none}
+use Rattle.model_text.specs.Found.{forbids}
+use Rattle.model_text.proofs.TextLaws.{and-both, allowed-line, spoilt-none}
 use Rattle.read_text.proofs.spoilt_line.Statement.{statement}
 use Rattle.read_text.proofs.spoilt_line.Tie as tie
 

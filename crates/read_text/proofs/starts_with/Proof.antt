@@ -1,6 +1,6 @@
 -- The prefix that is still to compare starts what is left of the text, as the whole starts the whole.
-use Rattle.read_text.proofs.Laws.{starts-short, starts-end, starts-next, starts-differ}
-use Rattle.read_text.specs.Text.{starts}
+use Rattle.model_text.proofs.TextLaws.{starts-short, starts-end, starts-next, starts-differ}
+use Rattle.model_text.specs.Found.{starts}
 use lib.ListN.{length, drop}
 use native.Mathlib.Omega.{arith}
 use Prim.Native.Nat.{_≤_, _-_}

@@ -1,5 +1,5 @@
 -- Nothing, one byte, a leading zero, or digits.
-use Rattle.read_text.proofs.Laws.{up-to-empty, up-to-one, up-to-zero, up-to-more}
+use Rattle.model_text.proofs.TextLaws.{up-to-empty, up-to-one, up-to-zero, up-to-more}
 use mathlib.Core.Path.{_∙_, sym}
 use borrow.Author.Needs.{needs}
 use Rattle.read_text.proofs.up_to.Statement.{statement}

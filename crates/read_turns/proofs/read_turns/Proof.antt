@@ -6,7 +6,7 @@ use native.Mathlib.Omega.{arith}
 use borrow.Author.Needs.{needs}
 use lib.ListN.{take}
 use Rattle.model.specs.Stored.{levelOf}
-use Rattle.read_text.proofs.Laws.{rest}
+use Rattle.model_text.proofs.TextLaws.{rest}
 use Rattle.read_line.specs.Phase.{Reads, checkedAs}
 use Rattle.read_line.specs.declared.{Checked.Checked, Phase.the-variants.Got}
 use Rattle.read_line.proofs.Laws.{feed-inside, one-other, one-bad, one-ok}

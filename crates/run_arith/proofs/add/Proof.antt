@@ -1,7 +1,7 @@
 -- The law of an operation that is done at i64 and then computed, at `_+ℤ_`.
 use borrow.Author.Needs.{needs}
 use lib.IntN.{_+ℤ_}
-use Rattle.model.specs.Arith.{sum}
+use Rattle.model_run.specs.Arith.{sum}
 use Rattle.run_arith.proofs.Laws.{widens, asked, answered, add-fits}
 use Rattle.run_arith.proofs.add.Statement.{statement}
 use Rattle.run_arith.proofs.add.Tie as tie

@@ -5,8 +5,9 @@ use borrow.Author.Needs.{needs}
 use Prim.Native.Nat.{ℕ}
 use lib.IntN.{ℤ}
 use mir.{Syntax.w32, Syntax.w64, Val.SFits, Val.toZ, Val.ofZ, Facts.toZ-ofZ}
-use Rattle.model.specs.{Arith.clamp, declared.Computed.Computed}
-use Rattle.model.proofs.Clamped.{tells-within, tells-beyond}
+use Rattle.model_run.specs.{Arith.clamp}
+use Rattle.model.specs.{declared.Computed.Computed}
+use Rattle.model_run.proofs.Clamped.{tells-within, tells-beyond}
 use Rattle.run_arith.proofs.Laws.{widens, widened, computed-is}
 use Rattle.run_arith.proofs.computed.Statement.{statement}
 use Rattle.run_arith.proofs.computed.Tie as tie

@@ -1,7 +1,7 @@
 -- The law of an operation that is done at i64 and then computed, at `_*ℤ_`.
 use borrow.Author.Needs.{needs}
 use lib.IntN.{_*ℤ_}
-use Rattle.model.specs.Arith.{product}
+use Rattle.model_run.specs.Arith.{product}
 use Rattle.run_arith.proofs.Laws.{widens, asked, answered, mul-fits}
 use Rattle.run_arith.proofs.mul.Statement.{statement}
 use Rattle.run_arith.proofs.mul.Tie as tie

@@ -1,7 +1,7 @@
 -- The law of an operation that is done at i64 and then computed, at `_-ℤ_`.
 use borrow.Author.Needs.{needs}
 use lib.IntN.{_-ℤ_}
-use Rattle.model.specs.Arith.{difference}
+use Rattle.model_run.specs.Arith.{difference}
 use Rattle.run_arith.proofs.Laws.{widens, asked, answered, sub-fits}
 use Rattle.run_arith.proofs.sub.Statement.{statement}
 use Rattle.run_arith.proofs.sub.Tie as tie

@@ -7,16 +7,15 @@ use native.Mathlib.{Omega.arith}
 use borrow.Author.{Needs.needs, Needs.sfits-of, Tests.lt-ltb, Tests.le-ltb}
 use lib.{ListN.length, ListN.getD, ListN.length-set, ListN.length-replicate}
 use mir.{Syntax.w32, Val.toZ, Val.ofZ, ValLaws.toZ-ofZ}
-use Rattle.model.specs.{Step.variable, Step.callOf, Limits.variables, Stored.keyCapacity, Stored.messageCapacity, Stored.letterCapacity, Stored.kindOf}
-use Rattle.model.specs.{Stored.levelOf, Accepted.Within, State.ticked, Verdict.short, Verdict.waits, Verdict.verdictBy, Run.runJob, Answer.left}
-use Rattle.model.specs.{Answer.leftBy}
+use Rattle.model_run.specs.{Step.variable, Step.callOf, State.ticked, Verdict.short, Verdict.waits, Verdict.verdictBy, Run.runJob, Whole.left, Whole.leftBy}
+use Rattle.model.specs.{Limits.variables, Stored.keyCapacity, Stored.messageCapacity, Stored.letterCapacity, Stored.kindOf, Stored.levelOf, Accepted.Within}
 use Rattle.model.specs.Stored as Stored
 use Rattle.model.specs.declared.{Call.Call, Level.Level, Execution.Execution, Clock.Clock, StoredJob.StoredJob, Answer.Answer}
 use Rattle.model.specs.declared.{Answer.the-variants.Ended}
 use Rattle.model.specs.declared.Ending.the-variants.{Stopped, NoRoom}
 use Rattle.model.specs.declared.Call.the-variants.{Receives, Sends}
 use Rattle.model.specs.declared.Level.the-variants.{Low, High}
-use Rattle.model.proofs.Turn.{calls, clamped}
+use Rattle.model_run.proofs.Turn.{calls, clamped}
 use Rattle.model.proofs.Ready.{Ready, few}
 use Rattle.run_step.proofs.Laws.{changedBy}
 use Rattle.run_verdict.specs.Verdict.{countsAs}

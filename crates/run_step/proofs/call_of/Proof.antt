@@ -1,7 +1,7 @@
 -- Each word's call, as the definition lists them.
 use mathlib.Core.Path.{sym, ap}
 use borrow.Author.Needs.{needs}
-use Rattle.model.specs.Step.{callOf}
+use Rattle.model_run.specs.Step.{callOf}
 use Rattle.run_step.proofs.call_of.Statement.{statement}
 use Rattle.run_step.proofs.call_of.Tie as tie
 

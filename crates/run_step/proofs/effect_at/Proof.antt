@@ -4,8 +4,8 @@ use mathlib.Core.Path.{_≡_, sym, subst, _∙_}
 use Prim.Native.Nat.{_<_, _≤_}
 use mir.{Syntax.w32, Val.toZ, Val.ofZ, ValLaws.toZ-ofZ}
 use Rattle.model.specs.declared.Computed.{Computed}
-use Rattle.model.specs.Arith.{sum, difference, product}
-use Rattle.model.proofs.Clamped.{computed-most, quotient-most}
+use Rattle.model_run.specs.Arith.{sum, difference, product}
+use Rattle.model_run.proofs.Clamped.{computed-most, quotient-most}
 use Rattle.run_arith.proofs.Laws.{returned}
 use Rattle.run_step.proofs.effect_at.Statement.{statement}
 use Rattle.run_step.proofs.effect_at.Tie as tie

@@ -3,7 +3,7 @@ use mathlib.Core.Path.{_≡_, ap, sym, _∙_}
 use Prim.Native.Nat.{ℕ}
 use mir.{Syntax.w32, ValLaws.toZ-ofZ}
 use borrow.Author.Needs.{needs, sfits-of}
-use Rattle.model.specs.Step.{variable}
+use Rattle.model_run.specs.Step.{variable}
 use Rattle.model.proofs.Variables.{last-place}
 use Rattle.run_step.proofs.holds.Statement.{statement}
 use Rattle.run_step.proofs.holds.Tie as tie

@@ -2,7 +2,7 @@
 use mathlib.Core.Path.{_∙_, sym, ap}
 use mathlib.Core.Bool.{cond}
 use mir.{Syntax.w32, Val.toZ, Val.ofZ, ValLaws.toZ-ofZ}
-use Rattle.model.specs.Arith.{isZero}
+use Rattle.model.specs.Number.{isZero}
 use Rattle.run_step.proofs.Laws.{nonzero}
 use Rattle.run_step.proofs.if_zero.Statement.{statement}
 use Rattle.run_step.proofs.if_zero.Tie as tie

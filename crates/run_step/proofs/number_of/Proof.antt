@@ -1,7 +1,7 @@
 -- The two cases of the entry.
 use mathlib.Core.Path.{_∙_, sym, ap}
 use borrow.Author.Needs.{needs}
-use Rattle.model.specs.Step.{numberOf}
+use Rattle.model_run.specs.Step.{numberOf}
 use Rattle.run_step.proofs.number_of.Statement.{statement}
 use Rattle.run_step.proofs.number_of.Tie as tie
 

@@ -1,7 +1,7 @@
 -- The two cases of the entry.
 use mathlib.Core.Path.{sym, ap}
 use borrow.Author.Needs.{needs}
-use Rattle.model.specs.Step.{presence}
+use Rattle.model_run.specs.Step.{presence}
 use Rattle.run_step.proofs.presence_of.Statement.{statement}
 use Rattle.run_step.proofs.presence_of.Tie as tie
 

@@ -1,6 +1,6 @@
 -- The kinds of call, and of the call that it is held to.
 use borrow.Author.Needs.{needs}
-use Rattle.model.specs.Verdict.{waits}
+use Rattle.model_run.specs.Verdict.{waits}
 use Rattle.run_verdict.proofs.waits.Statement.{statement}
 use Rattle.run_verdict.proofs.waits.Tie as tie
 

@@ -4,7 +4,8 @@ use lib.IntN.{ℤ, natAbs}
 use Rattle.model.specs.declared.Entry.{Entry}
 use Rattle.model.specs.Placed.{placed}
 use mathlib.Core.List.{_∷_}
-use Rattle.model.specs.{Decimal.digits, Line.cell, Line.sign}
+use Rattle.model.specs.{Decimal.digits}
+use Rattle.model_run.specs.{Line.cell, Line.sign}
 use borrow.Author.Needs.{needs}
 use Rattle.write_line.proofs.cell.Statement.{statement}
 use Rattle.write_line.proofs.cell.Tie as tie

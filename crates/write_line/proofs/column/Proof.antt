@@ -1,7 +1,8 @@
 -- The two cases of the key.
 use mathlib.Core.Path.{sym, ap}
 use borrow.Author.Needs.{needs}
-use Rattle.model.specs.{Message.source, Stored.side}
+use Rattle.model_run.specs.{Message.source}
+use Rattle.model.specs.{Stored.side}
 use Rattle.model.specs.declared.Key.{Key}
 use Rattle.write_line.proofs.column.Statement.{statement}
 use Rattle.write_line.proofs.column.Tie as tie

@@ -2,7 +2,8 @@
 use mathlib.Core.Path.{_∙_}
 use native.Mathlib.Omega.{arith}
 use lib.ListN.{length-set}
-use Rattle.model.specs.{Text.bytes, Line.heading}
+use Rattle.model.specs.{Text.bytes}
+use Rattle.model_run.specs.{Line.heading}
 use Rattle.write_line.proofs.Laws.{five-placed}
 use borrow.Author.Needs.{needs}
 use Rattle.write_line.proofs.heading.Statement.{statement}

@@ -3,7 +3,8 @@ use mathlib.Core.Path.{ap, _∙_}
 use mathlib.Core.List.{_∷_}
 use Prim.Native.Nat.{_+_, _*_}
 use borrow.Author.Needs.{needs}
-use Rattle.model.specs.{Text.space, Line.cell}
+use Rattle.model.specs.{Text.space}
+use Rattle.model_run.specs.{Line.cell}
 use Rattle.model.specs.declared.Entry.{Entry}
 use Rattle.model.specs.Placed.{placed}
 use Rattle.write_line.proofs.key_cell.Statement.{statement}

@@ -6,7 +6,8 @@ use mathlib.Core.List.{_∷_}
 use Prim.Native.Nat.{ℕ}
 use lib.{IntN.natAbs, ListN.length-set}
 use mir.{Syntax.w32, Facts.toZ-ofZ}
-use Rattle.model.specs.{Decimal.digits, Line.sign}
+use Rattle.model.specs.{Decimal.digits}
+use Rattle.model_run.specs.{Line.sign}
 use Rattle.model.specs.Placed.{placed}
 use Rattle.model.proofs.Placed.{placed-cons}
 use Rattle.write_line.proofs.print.Statement.{statement}

@@ -5,7 +5,7 @@ use mathlib.Core.List.{List, [], _∷_, _++_}
 use Prim.Native.Nat.{ℕ, zero, suc, _+_, _-_, _/_, _%_, _≤_, _<_}
 use lib.{ListN.length, ListN.take, ListN.drop, ListN.set, ListN.length-set, ListN.take-append-drop, Seq.take-set-le, Seq.append-snoc}
 use Rattle.model.specs.{Text.zeroDigit, Decimal.digits}
-use Rattle.model.proofs.{Placed.placed-between, Line.digits-length}
+use Rattle.model.proofs.{Placed.placed-between, Decimal.digits-length}
 use Rattle.write_text.proofs.spell.Statement.{statement}
 use Rattle.write_text.proofs.spell.Tie as tie
 

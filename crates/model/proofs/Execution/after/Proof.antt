@@ -4,7 +4,7 @@ use Prim.Native.Nat.{ℕ, _+_}
 use lib.{IntN.ℤ, ListN.set}
 use mir.{Syntax.w32, Val.toZ, Val.ofZ, ValLaws.toZ-ofZ}
 use borrow.Author.Needs.{needs}
-use Rattle.model.specs.{Step.afterOf, Data.Execution}
+use Rattle.model.specs.{Execution.afterOf, Data.Execution}
 use Rattle.model.proofs.Variables.{last-place}
 use Rattle.model.proofs.Execution.after.Statement.{statement}
 use Rattle.model.proofs.Execution.after.Tie as tie

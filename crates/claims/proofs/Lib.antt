@@ -1,0 +1,5 @@
+-- The proofs of the demands and of the claims.
+pub mod Demands
+pub mod Log
+pub mod Blocks
+pub mod Record

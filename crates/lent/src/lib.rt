@@ -1,0 +1,1 @@
+// Laws of lent memory, in proofs/. There is no function here.
