@@ -2,19 +2,10 @@
 use model::GREATEST_NUMBER;
 use model::LEAST_NUMBER;
 ghost use mathlib.Core.Path.{_≡_};
-ghost use mathlib.Core.Bool.{_&&_, not};
-ghost use Prim.Native.Nat.{_<_, min};
-ghost use lib.{Dec.leb, ListN.length};
-ghost use Rattle.model.specs.{Text.between as Text·between, Text.classOf, Text.find, Number.digitsTo, Number.upTo, Number.fromOne, Number.negative, Number.positive, Number.number};
-ghost use Rattle.model.specs.Sheet.{closed};
+ghost use Prim.Native.Nat.{_<_};
+ghost use Rattle.model.specs.{Text.find, Number.digitsTo, Number.upTo, Number.fromOne, Number.negative, Number.positive, Number.number};
 ghost use Rattle.read_text.specs.Text.{naturalAs, wholeAs};
-ghost use Rattle.model_text.specs.Found.{forbids, spoiltLine, starts};
-
-// The class that a scan asks for.
-const FORBIDDEN_CLASS: u8 = 10;
-
-// The bytes that a scan tests at once.
-const AT_ONCE: usize = 16;
+ghost use Rattle.model_text.specs.Found.{starts};
 
 // A number from 0 to a limit, or the number of its refusal.
 pub enum Natural {
@@ -26,53 +17,6 @@ pub enum Natural {
 pub enum Whole {
     Got(i32),
     Refused(u32),
-}
-
-fn between(lo: u8, hi: u8, b: u8) -> bool
-    ensures { λ r. ⌜ r ≡ Text·between lo hi b ⌝ }
-{
-    if b < lo {
-        return false;
-    }
-    b <= hi
-}
-
-// The class of a byte, numbered from 0 in document 01's order, by tests on ranges. The bytes outside of the largest range come first: of a caller that asks for the forbidden ones alone, a
-// compiler keeps these tests and no others.
-pub fn class_of(b: u8) -> u8
-    ensures { λ r. ⌜ r ≡ classOf b ⌝ }
-{
-    if !between(b' ', b'~', b) {
-        if b == b'\n' {
-            return 6;
-        }
-        return FORBIDDEN_CLASS;
-    }
-    if between(b'0', b'9', b) {
-        return 0;
-    }
-    if b == b'-' {
-        return 1;
-    }
-    if b == b',' {
-        return 2;
-    }
-    if b == b':' {
-        return 3;
-    }
-    if b == b'=' {
-        return 4;
-    }
-    if b == b' ' {
-        return 5;
-    }
-    if between(b'a', b'z', b) {
-        return 7;
-    }
-    if between(b'A', b'Z', b) {
-        return 8;
-    }
-    9
 }
 
 // The place of the first c, or the length where there is none. Two bytes at a time: most of a sheet's bytes are passed here.
@@ -96,92 +40,6 @@ pub fn find_byte(s: &[u8], c: u8) -> usize
         return i + 1;
     }
     i
-}
-
-// Whether the last byte is a line feed.
-fn is_closed(s: &[u8]) -> bool
-    ensures { λ r. ⌜ r ≡ closed (now (s .entry)) ⌝ }
-{
-    let n = s.len();
-    if n == 0 {
-        return false;
-    }
-    s[n - 1] == b'\n'
-}
-
-// Whether one of these bytes is forbidden. What a byte is does not decide which comes next, so that a compiler tests many of them in one step.
-fn has_forbidden(s: &[u8]) -> bool
-    ensures { λ r. ⌜ r ≡ forbids (now (s .entry)) ⌝ }
-{
-    let mut found = false;
-    let mut i = 0;
-    while i < s.len() {
-        if class_of(s[i]) == FORBIDDEN_CLASS {
-            found = true;
-        }
-        i += 1;
-    }
-    found
-}
-
-fn lesser(a: usize, b: usize) -> usize
-    ensures { λ r. ⌜ r ≡ min a b ⌝ }
-{
-    if b < a { b } else { a }
-}
-
-// Whether there are bytes enough to test so many at once, and none is forbidden. The last ones are tested together too, even if some of them were before.
-fn all_allowed(s: &[u8]) -> bool
-    ensures { λ r. ⌜ r ≡ leb 16 (length (now (s .entry))) && not (forbids (now (s .entry))) ⌝ }
-{
-    let n = s.len();
-    if n < AT_ONCE {
-        return false;
-    }
-    let mut i = 0;
-    while i < n {
-        let a = lesser(i, n - AT_ONCE);
-        if has_forbidden(&s[a..a + AT_ONCE]) {
-            return false;
-        }
-        i = a + AT_ONCE;
-    }
-    true
-}
-
-// The line that refusal 2 names, or 0 where it does not apply, byte by byte.
-fn fault_line(s: &[u8]) -> usize
-    ensures { λ r. ⌜ r ≡ spoiltLine (now (s .entry)) ⌝ }
-{
-    let mut line: usize = 1;
-    let mut i = 0;
-    while i < s.len() {
-        let b = s[i];
-        if class_of(b) == FORBIDDEN_CLASS {
-            return line;
-        }
-        i += 1;
-        if b == b'\n' {
-            if s.len() <= i {
-                return 0;
-            }
-            line += 1;
-        }
-    }
-    line
-}
-
-// The line that refusal 2 names, or 0 where it does not apply: that of the first forbidden byte, or the one after the last line feed where the last byte is
-// none. Lines are counted only where there is a fault, or little text.
-pub fn spoilt_line(s: &[u8]) -> usize
-    ensures { λ r. ⌜ r ≡ spoiltLine (now (s .entry)) ⌝ }
-{
-    if is_closed(s) {
-        if all_allowed(s) {
-            return 0;
-        }
-    }
-    fault_line(s)
 }
 
 pub fn starts_with(t: &[u8], p: &[u8]) -> bool

@@ -1,4 +1,4 @@
--- A word against its row of the table; a command's text as a word and what follows it.
+-- A command's text as a word and what follows it.
 use mathlib.Core.Path.{_≡_, refl, sym, ap, _∙_, subst}
 use mathlib.Core.List.{List, [], _∷_, _++_, append-nil, append-assoc}
 use Prim.Native.Nat.{ℕ, _+_, _<_, _≤_}
@@ -7,12 +7,8 @@ use Rattle.model.specs.{Text.space, Text.bytes, Text.lineFeed, Command.blank, A
 use Rattle.model.specs.declared.{Command.Command, Op.Op, Op.the-variants.Set, Operand.Operand}
 use Rattle.model_text.specs.Text.{prefixed, unlines, named, operandText, operandTexts, commandText, commandLine, commandLines}
 use Rattle.model_text.proofs.Texts.{joined-prefixed, unlines-more, unlines-end}
-use Rattle.write_commands.specs.Commands.{operandsAs, following, Worded}
-use Rattle.write_commands.specs.declared.Wording.{Wording}
-
--- an op that is found to be p
-pub worded : {w : Wording} {o p : Op} → o ≡ p → take (w .1) (w .0) ≡ rowFor p .word → operandsAs (w .2) ≡ rowFor p .parts → w .1 ≤ length (w .0) → Worded w o
-worded {w} e word parts inside = subst (Worded w) (sym e) (record { word = word; parts = parts; inside = inside })
+use Rattle.write_words.specs.Words.{operandsAs, following, Worded}
+use Rattle.write_words.specs.declared.Wording.{Wording}
 
 -- the letters, and the operands behind them
 pub text-parts : (w : Wording) (c : Command) → Worded w (c .op) → commandText c ≡ take (w .1) (w .0) ++ prefixed space (operandTexts (operandsAs (w .2)) c)

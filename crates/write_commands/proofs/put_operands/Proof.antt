@@ -5,7 +5,7 @@ use Prim.Native.Nat.{ℕ}
 use borrow.Author.Needs.{needs}
 use Rattle.model.specs.declared.Operand.{Operand}
 use Rattle.write_text.proofs.Laws.{put-then, room-first, room-next}
-use Rattle.write_commands.specs.Commands.{operandsAs, partAs, following}
+use Rattle.write_words.specs.Words.{operandsAs, partAs, following}
 use Rattle.write_commands.proofs.Laws.{following-join}
 use Rattle.write_commands.proofs.put_operands.Statement.{statement}
 use Rattle.write_commands.proofs.put_operands.Tie as tie

@@ -5,8 +5,8 @@ use borrow.Author.Needs.{needs}
 use Rattle.model.specs.Text.{space}
 use Rattle.model_text.specs.Text.{prefixed, operandText}
 use Rattle.write_text.proofs.Laws.{put-nothing}
-use Rattle.write_commands.specs.Commands.{following, partAs}
-use Rattle.write_commands.specs.declared.Part.{Part}
+use Rattle.write_words.specs.Words.{following, partAs}
+use Rattle.write_words.specs.declared.Part.{Part}
 use Rattle.write_commands.proofs.Laws.{following-one}
 use Rattle.write_commands.proofs.put_part.Statement.{statement}
 use Rattle.write_commands.proofs.put_part.Tie as tie

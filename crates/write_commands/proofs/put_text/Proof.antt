@@ -9,7 +9,7 @@ use Rattle.model.specs.Text.{space}
 use Rattle.model_text.specs.Text.{prefixed, operandTexts}
 use Rattle.write_text.specs.Put.{Room}
 use Rattle.write_text.proofs.Laws.{put-then, room-first, room-next}
-use Rattle.write_commands.specs.Commands.{operandsAs}
+use Rattle.write_words.specs.Words.{operandsAs}
 use Rattle.write_commands.proofs.Laws.{text-parts}
 use Rattle.write_commands.proofs.put_text.Statement.{statement}
 use Rattle.write_commands.proofs.put_text.Tie as tie

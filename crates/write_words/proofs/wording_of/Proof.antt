@@ -3,9 +3,9 @@ use mathlib.Core.Path.{refl}
 use native.Mathlib.Omega.{arith}
 use borrow.Author.Needs.{needs}
 use Rattle.model.specs.{Text.bytes, Command.table, Accepted.rowFor}
-use Rattle.write_commands.proofs.Laws.{worded}
-use Rattle.write_commands.proofs.wording_of.Statement.{statement}
-use Rattle.write_commands.proofs.wording_of.Tie as tie
+use Rattle.write_words.proofs.Laws.{worded}
+use Rattle.write_words.proofs.wording_of.Statement.{statement}
+use Rattle.write_words.proofs.wording_of.Tie as tie
 
 pub wording-of-spec : {M : Type 1} → statement M
 unfolding table rowFor bytes

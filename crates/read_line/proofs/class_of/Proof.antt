@@ -7,8 +7,8 @@ use borrow.Author.Needs.{needs}
 use borrow.Author.Tests.{not-true, not-false}
 use Rattle.model.specs.Text.{classOf}
 use Rattle.model_text.proofs.TextLaws.{between-in, between-out, between-less, digit-class, small-class, capital-class, other-class, below-class, above-class}
-use Rattle.read_text.proofs.class_of.Statement.{statement}
-use Rattle.read_text.proofs.class_of.Tie as tie
+use Rattle.read_line.proofs.class_of.Statement.{statement}
+use Rattle.read_line.proofs.class_of.Tie as tie
 
 returns-2 : tie.Need-returns-2
 returns-2 c =

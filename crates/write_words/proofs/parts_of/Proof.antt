@@ -1,9 +1,9 @@
 -- The operands in their order, of each kind.
 use mathlib.Core.Path.{sym, ap}
 use borrow.Author.Needs.{needs}
-use Rattle.write_commands.specs.Commands.{operandsAs}
-use Rattle.write_commands.proofs.parts_of.Statement.{statement}
-use Rattle.write_commands.proofs.parts_of.Tie as tie
+use Rattle.write_words.specs.Words.{operandsAs}
+use Rattle.write_words.proofs.parts_of.Statement.{statement}
+use Rattle.write_words.proofs.parts_of.Tie as tie
 
 pub parts-of-spec : {M : Type 1} → statement M
 parts-of-spec =

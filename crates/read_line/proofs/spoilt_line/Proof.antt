@@ -6,8 +6,8 @@ use borrow.Author.Needs.{needs}
 use borrow.Author.Tests.{not-true}
 use Rattle.model_text.specs.Found.{forbids}
 use Rattle.model_text.proofs.TextLaws.{and-both, allowed-line, spoilt-none}
-use Rattle.read_text.proofs.spoilt_line.Statement.{statement}
-use Rattle.read_text.proofs.spoilt_line.Tie as tie
+use Rattle.read_line.proofs.spoilt_line.Statement.{statement}
+use Rattle.read_line.proofs.spoilt_line.Tie as tie
 
 returns : tie.Need-returns
 returns c =

@@ -8,8 +8,8 @@ use borrow.Author.Tests.{le-leb, lt-leb}
 use lib.ListN.{length, take, drop}
 use Rattle.model_text.specs.Found.{forbids}
 use Rattle.model_text.proofs.TextLaws.{forbids-end, part-forbids, part-allowed}
-use Rattle.read_text.proofs.all_allowed.Statement.{statement}
-use Rattle.read_text.proofs.all_allowed.Tie as tie
+use Rattle.read_line.proofs.all_allowed.Statement.{statement}
+use Rattle.read_line.proofs.all_allowed.Tie as tie
 
 abbrev Inv-loop : tie.InvT-loop
 Inv-loop s n i₀ i = (i ≤ length s) × (forbids (drop i s) ≡ false → forbids s ≡ false)

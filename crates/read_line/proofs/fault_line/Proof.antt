@@ -9,8 +9,8 @@ use lib.ListN.{length, drop}
 use Rattle.model.specs.{Sheet.forbiddenLine, Sheet.closed, Text.count}
 use Rattle.model_text.proofs.TextLaws.{line-end, line-forbidden, line-feed, line-same, count-here, count-next, count-end, closed-empty, last-closed, last-open}
 use Rattle.model_text.proofs.TextLaws.{spoilt-forbidden, spoilt-none, spoilt-open}
-use Rattle.read_text.proofs.fault_line.Statement.{statement}
-use Rattle.read_text.proofs.fault_line.Tie as tie
+use Rattle.read_line.proofs.fault_line.Statement.{statement}
+use Rattle.read_line.proofs.fault_line.Tie as tie
 
 abbrev Inv-loop : tie.InvT-loop
 Inv-loop s line₀ i₀ line i =

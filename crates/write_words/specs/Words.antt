@@ -6,9 +6,9 @@ use lib.ListN.{length, take}
 use Rattle.model.specs.{Text.space, Accepted.rowFor}
 use Rattle.model.specs.declared.{Op.Op, Command.Command, Operand.Operand}
 use Rattle.model_text.specs.Text.{prefixed, operandTexts}
-use Rattle.write_commands.specs.declared.{Operands.Operands, Part.Part, Wording.Wording}
-use Rattle.write_commands.specs.declared.Operands.the-variants.{None, One, Two}
-use Rattle.write_commands.specs.declared.Part.the-variants.{None as NoPart, Of}
+use Rattle.write_words.specs.declared.{Operands.Operands, Part.Part, Wording.Wording}
+use Rattle.write_words.specs.declared.Operands.the-variants.{None, One, Two}
+use Rattle.write_words.specs.declared.Part.the-variants.{None as NoPart, Of}
 
 abbrev pub operandsAs : Operands → List Operand
 operandsAs None = []

@@ -7,8 +7,8 @@ use Rattle.model.specs.declared.{Command.Command, Operand.Operand}
 use Rattle.model_text.specs.Text.{operandText}
 use Rattle.write_text.specs.Put.{signed}
 use Rattle.write_text.proofs.Laws.{whole-is}
-use Rattle.write_commands.proofs.value_of.Statement.{statement}
-use Rattle.write_commands.proofs.value_of.Tie as tie
+use Rattle.write_words.proofs.value_of.Statement.{statement}
+use Rattle.write_words.proofs.value_of.Tie as tie
 
 -- an operand that is found to be p
 found : {o p : Operand} (c : Command) → o ≡ p → operandText p c ≡ operandText o c

@@ -8,8 +8,8 @@ use borrow.Author.Needs.{needs}
 use lib.ListN.{length, drop}
 use Rattle.model_text.specs.Found.{forbids}
 use Rattle.model_text.proofs.TextLaws.{forbids-end, forbids-here, forbids-next}
-use Rattle.read_text.proofs.has_forbidden.Statement.{statement}
-use Rattle.read_text.proofs.has_forbidden.Tie as tie
+use Rattle.read_line.proofs.has_forbidden.Statement.{statement}
+use Rattle.read_line.proofs.has_forbidden.Tie as tie
 
 abbrev Inv-loop : tie.InvT-loop
 Inv-loop s found₀ i₀ found i = (i ≤ length s) × (cond found true (forbids (drop i s)) ≡ forbids s)
