@@ -1,4 +1,5 @@
 -- The proofs of the demands and of the claims.
+pub mod Index
 pub mod Demands
 pub mod Log
 pub mod Blocks

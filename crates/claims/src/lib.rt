@@ -1,1 +1,2 @@
-// What is claimed of the entries: the claims are in specs/, their proofs in proofs/. There is no function here.
+// What is claimed: of the entries in specs/, proved in proofs/, and of all definitions by the index of every claim. There is
+// no function here.

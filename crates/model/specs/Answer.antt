@@ -1,4 +1,4 @@
--- What a run of a whole sheet answers, prints and leaves in the memories that are lent to it.
+-- The numbers of an answer: the line that they are printed as, and their bytes in the memory that a C entry is lent.
 use Prim.Native.Nat.{ℕ, _*_, _/_, _%_}
 use mathlib.Core.List.{List, [], _∷_, _++_}
 use lib.{ListN.length, ListN.getD, Dec.eqb}

@@ -1,5 +1,5 @@
--- The run of a job: document 01's arithmetic, commands, executions, message, turns and endings, with the rule of document 02's Note 2 in the turn; then what is
--- claimed of it, of the plain run of Note 4, and of clamped results.
+-- The run of a job: document 01's arithmetic, commands, executions, message, turns and endings, with the rule of document
+-- 02's Note 2 in the turn; then what is claimed of it, of the plain run of Note 4, and of clamped results.
 pub mod Data
 pub mod Arith
 pub mod Step

@@ -1,4 +1,7 @@
--- The laws of the texts that are written: from the bytes of a number up to message lines and command lines in a sheet.
+-- The laws of texts and of lines, by which every reader is proved; then those of the texts that are written, from the bytes
+-- of a number up to message lines and command lines in a sheet.
+pub mod TextLaws
+pub mod LineLaws
 pub mod Bytes
 pub mod Numbers
 pub mod Texts
@@ -11,5 +14,3 @@ pub mod Opening
 pub mod Lines
 pub mod Pasted
 pub mod Replaced
-pub mod LineLaws
-pub mod TextLaws

@@ -1,5 +1,6 @@
--- The texts that are written for a sheet, what is claimed of reading them, and the form of examples.
-pub mod Text
+-- What is found in a text; the texts that are written for a sheet, what is claimed of reading them, and the form of
+-- examples.
 pub mod Found
+pub mod Text
 pub mod Pasted
 pub mod Examples

@@ -1,4 +1,4 @@
--- The laws of the entries, the three demands, and the claims of Notes 1, 5 and 7.
+-- The laws by which the entries meet their contracts.
 pub mod Laws
 pub mod LentJob
 pub mod Texts

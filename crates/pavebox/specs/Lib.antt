@@ -1,2 +1,3 @@
+-- The contracts of the C entries. What is claimed of them is in the crate `claims`.
 pub mod Entry
 pub mod Texts

@@ -1,4 +1,4 @@
--- What the readers of bytes and numbers answer, and what a text starts with and is free of.
+-- What the readers of bytes and numbers answer.
 use Prim.Native.Nat.{ℕ}
 use lib.{IntN.ℤ}
 use Rattle.model.specs.{Parsed.Parsed, Parsed.got, Parsed.refused}
