@@ -14,7 +14,8 @@ use Rattle.model_text.proofs.LineLaws.{lines-none, lines-more}
 use Rattle.read_command.specs.{Code.codeOf, Command.partsAfter}
 use Rattle.read_command.proofs.Words.{Bytes, bytes-take}
 use Rattle.pack_command.specs.Pack.{commandNumber}
-use Rattle.read_blocks.specs.Blocks.{byCode, openerWord, nearBy, nextLine, Starts, LineAt, reading, RefusedFrom, Goes, NoMore, ItemRead, NestedRead, StoppedAt, BlockRead, OtherGoes, OtherRead, OwnRead}
+use Rattle.read_dialect.specs.Words.{byCode}
+use Rattle.read_blocks.specs.Blocks.{openerWord, nearBy, nextLine, Starts, LineAt, reading, RefusedFrom, Goes, NoMore, ItemRead, NestedRead, StoppedAt, BlockRead, OtherGoes, OtherRead, OwnRead}
 use Rattle.read_blocks.specs.declared.{Mark.Mark, Close.Close, Body.Body, Item.Item}
 use Rattle.read_blocks.specs.declared.Item.the-variants.{Got as ItemGot, Over as ItemOver, Else as ItemElse, End as ItemEnd, Refused as ItemRefused}
 use Rattle.read_blocks.proofs.Words.{by-code}

@@ -16,7 +16,7 @@ use Rattle.model_blocks.specs.Dialect.{blockWord, ownCommand, tested}
 use Rattle.read_command.specs.{Code.codeOf, Code.saidBy, Code.lookup, Command.byWord, Command.oneOf, Command.single}
 use Rattle.read_command.proofs.Words.{Bytes, code-same, word-short, small}
 use Rattle.pack_command.specs.Pack.{Packable}
-use Rattle.read_blocks.specs.Blocks.{byCode, leftOut}
+use Rattle.read_dialect.specs.Words.{byCode, leftOut}
 
 -- ---- Which word it is
 

@@ -1,51 +1,29 @@
 -- What the readers of a program with blocks are given and answer. Places are in the text s; K is the number of keys, and d blocks are open around.
 use Prim.Native.Nat.{ℕ, _+_, _<_, _≤_}
 use mathlib.Core.Path.{_≡_}
-use mathlib.Core.Bool.{Bool, true, false, cond, not}
+use mathlib.Core.Bool.{Bool, true, false, cond}
 use mathlib.Core.List.{List, [], _∷_, _++_, map}
 use lib.{Dec.eqb, Dec.ltb, ListN.length, ListN.take, ListN.drop, ListN.set}
 use Rattle.model.specs.{Parsed.Parsed, Parsed.got, Text.bytes, Text.find, Text.space, Text.lines, Limits.mostKeys, Limits.variables}
 use Rattle.model.specs.Parsed as Parsed
-use Rattle.model.specs.declared.{Op.Op, Operand.Operand, Command.Command}
-use Rattle.model_blocks.specs.Block.{Block, ifElse, empty, wayOf, allowed, places, testTo, jumpTo, translate, commandsOf}
-use Rattle.model_blocks.specs.Dialect.{BlockWord, ifWord, elseWord, whileWord, endWord, otherWord, blockWord, ownCommand, inIf, Standing, adding, opening, deepest, BlocksRead}
+use Rattle.model.specs.declared.{Command.Command}
+use Rattle.model_blocks.specs.Block.{Block, ifElse, empty, places, testTo, jumpTo, translate, commandsOf}
+use Rattle.model_blocks.specs.Dialect.{BlockWord, ifWord, elseWord, whileWord, endWord, blockWord, ownCommand, inIf, Standing, adding, opening, deepest, BlocksRead}
 use Rattle.model_blocks.specs.Dialect.{tree, readFrom, readBlocks}
 use Rattle.model_blocks.specs.Dialect as Dialect
 use Rattle.read_command.specs.{Code.codeOf, Command.partsAfter, declared.FirstWord.FirstWord}
 use Rattle.pack_command.specs.Pack.{commandNumber}
-use Rattle.read_blocks.specs.declared.{LineWord.LineWord, Mark.Mark, Close.Close, Body.Body, Item.Item, Translated.Translated}
-use Rattle.read_blocks.specs.declared.LineWord.the-variants.{If, Else, While, End, Other}
+use Rattle.read_blocks.specs.declared.{Mark.Mark, Close.Close, Body.Body, Item.Item, Translated.Translated}
 use Rattle.read_blocks.specs.declared.Close.the-variants.{Over, Else as BeforeElse, End as BeforeEnd, Refused}
 use Rattle.read_blocks.specs.declared.Item.the-variants.{Got as ItemGot, Over as ItemOver, Else as ItemElse, End as ItemEnd, Refused as ItemRefused}
 use Rattle.read_blocks.specs.declared.Translated.the-variants.{Got as ProgramGot, Refused as ProgramRefused}
 
 -- ---- The word of a line
 
-abbrev pub saidAs : LineWord → BlockWord
-saidAs If = ifWord
-saidAs Else = elseWord
-saidAs While = whileWord
-saidAs End = endWord
-saidAs Other = otherWord
-
--- which of the four words has the number x
-unfoldable pub byCode : ℕ → BlockWord
-byCode x =
-    cond (eqb x (codeOf (bytes "if"))) ifWord
-    (cond (eqb x (codeOf (bytes "else"))) elseWord
-    (cond (eqb x (codeOf (bytes "while"))) whileWord
-    (cond (eqb x (codeOf (bytes "end"))) endWord
-    otherWord)))
-
 -- the word of a `while`, or of an `if`
 abbrev pub openerWord : Bool → BlockWord
 openerWord true = whileWord
 openerWord false = ifWord
-
--- a word of the table that the dialect leaves out
-abbrev pub leftOut : Parsed (Op × List Operand) → Bool
-leftOut (got x) = not (allowed (wayOf (x .0)))
-leftOut (Parsed.refused n) = false
 
 -- ---- Places
 

@@ -9,40 +9,31 @@ use model::Command;
 use model::Form;
 use model::LAST_VARIABLE;
 use model::Op;
-use pack_command::pack;
-use read_command::CommandWord;
 use read_command::FirstWord;
 use read_command::Line;
 use read_command::first_word;
 use read_command::one_part;
 use read_command::read_operands;
 use read_command::word_by_code;
+use read_dialect::LineWord;
+use read_dialect::is_left_out;
+use read_dialect::keep;
+use read_dialect::said_by;
 use read_line::spoilt_line;
 use read_text::Natural;
 use read_text::find_byte;
 ghost use mathlib.Core.Path.{_≡_};
-ghost use mathlib.Core.Bool.{not};
 ghost use Prim.Native.Nat.{_+_, _<_, _≤_};
 ghost use lib.ListN.{length, take, set};
 ghost use Rattle.model.specs.{Limits.mostKeys, Limits.variables, Text.find, Text.space};
 ghost use Rattle.model_blocks.specs.{Block.testTo, Block.jumpTo, Block.wayOf, Block.allowed, Dialect.ownCommand, Dialect.tested, Dialect.elseWord};
 ghost use Rattle.read_text.specs.Text.{naturalAs};
-ghost use Rattle.read_command.specs.{Code.codeOf, Command.lineAs, Command.partsAfter, Command.wordAs};
-ghost use Rattle.pack_command.specs.Pack.{commandNumber, Packable};
-ghost use Rattle.read_blocks.specs.Blocks.{saidAs, byCode, leftOut, nextLine, Sane, LineAt, ItemRead, BlockRead, NestedRead, OtherAsked, OtherRead, OwnAsked, OwnRead};
+ghost use Rattle.read_command.specs.{Code.codeOf, Command.lineAs, Command.partsAfter};
+ghost use Rattle.read_blocks.specs.Blocks.{nextLine, Sane, LineAt, ItemRead, BlockRead, NestedRead, OtherAsked, OtherRead, OwnAsked, OwnRead};
 ghost use Rattle.read_blocks.specs.Blocks.{ProgramRead, nearBy, openerWord};
 
 // "nested at most 8 deep"
 const DEEPEST: usize = 8;
-
-// What the first word of a line says.
-pub enum LineWord {
-    If,
-    Else,
-    While,
-    End,
-    Other,
-}
 
 // Where reading stands: the start of the next line, its number, and how many commands there are so far.
 pub struct Mark {
@@ -79,53 +70,6 @@ pub struct Body {
 pub enum Translated {
     Got(usize),
     Refused(u32, usize),
-}
-
-// The word of a line by its number.
-fn said_by(code: u64) -> LineWord
-    ensures { λ r. ⌜ saidAs r ≡ byCode code ⌝ }
-{
-    match code {
-        215858 => LineWord::If, // if
-        13612849964 => LineWord::Else, // else
-        4102822781741 => LineWord::While, // while
-        53179171 => LineWord::End, // end
-        _ => LineWord::Other,
-    }
-}
-
-// Whether a command goes to a target.
-fn goes_elsewhere(op: Op) -> bool
-    ensures { λ r. ⌜ r ≡ not (allowed (wayOf op)) ⌝ }
-{
-    match op {
-        Op::Set => false,
-        Op::Add => false,
-        Op::Sub => false,
-        Op::Mul => false,
-        Op::Div => false,
-        Op::Read => false,
-        Op::Has => false,
-        Op::Put => false,
-        Op::Drop => false,
-        Op::IfNeg => true,
-        Op::IfZero => true,
-        Op::Jump => true,
-        Op::Receive => false,
-        Op::Send => false,
-        Op::Stop => false,
-    }
-}
-
-// A word of the table that goes to a target, which the dialect leaves out.
-fn is_left_out(word: CommandWord) -> bool
-    ensures { λ r. ⌜ r ≡ leftOut (wordAs word) ⌝ }
-{
-    match word {
-        CommandWord::Alone(op) => goes_elsewhere(op),
-        CommandWord::Followed(op, _) => goes_elsewhere(op),
-        CommandWord::Unknown => false,
-    }
 }
 
 // A command of the dialect on the line l, whose first word has this number and ends at e.
@@ -186,17 +130,6 @@ fn jump_to(t: usize) -> Command
         k: 0,
         t: near(t),
         n: 0,
-    }
-}
-
-// Keeps a command at its place, if the memory reaches so far.
-fn keep(out: &mut [u64], at: usize, c: Command)
-    requires { ⌜ Packable c ⌝ }
-    ensures { λ _. ⌜ now (out .exit) ≡ set (now (out .entry)) at (commandNumber c) ⌝ }
-{
-    let x = pack(c);
-    if at < out.len() {
-        out[at] = x;
     }
 }
 

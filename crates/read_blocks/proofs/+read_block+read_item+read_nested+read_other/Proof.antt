@@ -10,8 +10,10 @@ use borrow.Fn.PlainCycle.{Measures, is, falls, and}
 use lib.{ListN.length, ListN.take, ListN.drop, Seq.length-take-le}
 use Rattle.model_blocks.specs.Dialect.{otherWord}
 use Rattle.model_text.proofs.TextLaws.{rest}
-use Rattle.read_blocks.specs.Blocks.{saidAs, nextLine, Sane, LineAt, Goes, ItemRead, NestedRead, StoppedAt, OtherRead, OwnAsked}
-use Rattle.read_blocks.specs.declared.{LineWord.LineWord, Close.Close, Item.Item}
+use Rattle.read_dialect.specs.Words.{saidAs}
+use Rattle.read_blocks.specs.Blocks.{nextLine, Sane, LineAt, Goes, ItemRead, NestedRead, StoppedAt, OtherRead, OwnAsked}
+use Rattle.read_dialect.specs.declared.{LineWord.LineWord}
+use Rattle.read_blocks.specs.declared.{Close.Close, Item.Item}
 use Rattle.read_blocks.proofs.Goes.{goes-none, goes-more, goes-as, refuses-after, other-on}
 use Rattle.read_blocks.proofs.Items.{no-line, line-at, own-item, nested-item, item-as, stopped-as, Opened, nested-refuses, nested-open, nested-end, nested-if, nested-loop, nested-other, nested-while, other-open, other-closed, other-else, other-end}
 use Rattle.read_blocks.proofs.Lines.{line-long, opener-word, line-length, opens-deep, opens-bad, else-bad}
@@ -31,10 +33,10 @@ use Rattle.read_blocks.proofs.read_other.Reads as read-other
 use Rattle.read_blocks.proofs.read_other.Kinds as read-other-kinds
 use Rattle.read_blocks.proofs.+read_block+read_item+read_nested+read_other.Lts-read_other as read-other-lts
 use Rattle.read_blocks.proofs.jump_to.Reads as jump-to
-use Rattle.read_blocks.proofs.keep.Reads as keep
+use Rattle.read_dialect.proofs.keep.Reads as keep
 use Rattle.read_blocks.proofs.next_line.Reads as next-line
 use Rattle.read_blocks.proofs.read_own.Reads as read-own
-use Rattle.read_blocks.proofs.said_by.Reads as said-by
+use Rattle.read_dialect.proofs.said_by.Reads as said-by
 use Rattle.read_blocks.proofs.test_to.Reads as test-to
 use Rattle.read_blocks.proofs.variable_of.Reads as variable-of
 use Rattle.read_command.proofs.first_word.Reads as first-word

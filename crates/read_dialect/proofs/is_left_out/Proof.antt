@@ -3,9 +3,9 @@ use mathlib.Core.Path.{_∙_, sym, ap}
 use borrow.Author.Needs.{needs}
 use Rattle.read_command.specs.Command.{wordAs}
 use Rattle.read_command.specs.declared.CommandWord.{CommandWord}
-use Rattle.read_blocks.specs.Blocks.{leftOut}
-use Rattle.read_blocks.proofs.is_left_out.Statement.{statement}
-use Rattle.read_blocks.proofs.is_left_out.Tie as tie
+use Rattle.read_dialect.specs.Words.{leftOut}
+use Rattle.read_dialect.proofs.is_left_out.Statement.{statement}
+use Rattle.read_dialect.proofs.is_left_out.Tie as tie
 
 pub is-left-out-spec : {M : Type 1} → statement M
 is-left-out-spec =

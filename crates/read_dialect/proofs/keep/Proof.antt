@@ -3,8 +3,8 @@ use mathlib.Core.Path.{sym, ap}
 use Prim.Native.Nat.{ℕ}
 use borrow.Author.Needs.{needs}
 use lib.{ListN.set, Seq.set-out}
-use Rattle.read_blocks.proofs.keep.Statement.{statement}
-use Rattle.read_blocks.proofs.keep.Tie as tie
+use Rattle.read_dialect.proofs.keep.Statement.{statement}
+use Rattle.read_dialect.proofs.keep.Tie as tie
 
 pub keep-spec : {M : Type 1} → statement M
 keep-spec =

@@ -3,9 +3,9 @@ use mathlib.Core.Path.{sym, ap}
 use borrow.Author.Tests.{ne-eqb}
 use Rattle.model.specs.Text.{bytes}
 use Rattle.read_command.specs.Code.{packed, withCount, codeOf}
-use Rattle.read_blocks.specs.Blocks.{byCode}
-use Rattle.read_blocks.proofs.said_by.Statement.{statement}
-use Rattle.read_blocks.proofs.said_by.Tie as tie
+use Rattle.read_dialect.specs.Words.{byCode}
+use Rattle.read_dialect.proofs.said_by.Statement.{statement}
+use Rattle.read_dialect.proofs.said_by.Tie as tie
 
 pub said-by-spec : {M : Type 1} → statement M
 unfolding byCode bytes codeOf withCount packed
