@@ -8,6 +8,8 @@ use Rattle.model_run.proofs.Clamped as Clamped
 use Rattle.model_run.proofs.Honest as Honest
 use Rattle.model_run.proofs.{Counted.counts-of}
 use Rattle.model_run.proofs.HonestExamples as HonestExamples
+use Rattle.model_run.proofs.Owners as Owners
+use Rattle.model.proofs.Owners as OwnersRead
 use Rattle.model_text.proofs.{Pasted.pasted, Replaced.program-pasted, Short.lines-short, Short.command-lines-short}
 use Rattle.model_log.proofs.Rows as LogRows
 use Rattle.model_log.proofs.Refusals as LogRefusals
@@ -30,7 +32,7 @@ use Rattle.claims.proofs.Demands as Demands
 use Rattle.claims.proofs.Log as Log
 use Rattle.claims.proofs.Blocks as Blocks
 use Rattle.claims.proofs.Record as Record
-use Rattle.claims.specs.Index.{Document01, Note1, Note2, Note3, Note4, Note5, Note6, Note7, Index}
+use Rattle.claims.specs.Index.{Document01, Note1, Note2, Note3, Note4, Note5, Note6, Note7, Note8, Index}
 
 pub document-01 : Document01
 document-01 =
@@ -78,6 +80,7 @@ note-2 =
       kept = CallKinds.always-kept;
       idlesOn = CallKinds.idles-on;
       idles = CallKinds.always-idles;
+      theirs = CallKinds.only-theirs;
       columns = CallKinds.only-secret-columns;
       sheetColumns = CallKinds.only-secret-columns-of-sheets;
       makersSheet = CallKinds.makers-sheet;
@@ -163,6 +166,29 @@ note-7 =
       runsAlike = RecordText.runs-alike;
       worked = RecordExamples.worked;
       examples = RecordExamples.examples;
+      ofTwo = RecordExamples.of-two;
+    }
+
+pub note-8 : Note8
+note-8 =
+    record {
+      calls = Demands.owners-telling;
+      forms = OwnersRead.forms-told;
+      owners = OwnersRead.owners-told;
+      letters = OwnersRead.letters-told;
+      fields = OwnersRead.fields-apart;
+      accepts = OwnersRead.reads;
+      refuses = OwnersRead.gets;
+      limits = OwnersRead.at-limits;
+      sees = Owners.always-sees;
+      noLineLeft = Owners.no-line-left;
+      shows = Owners.always-shows;
+      runsAlike = Owners.runs-alike;
+      notLookedAt = Owners.not-looked-at;
+      oneOwner = Owners.one-owner;
+      examples = Owners.texts;
+      tellingB = Owners.telling-b;
+      tellingBoth = Owners.telling-both;
     }
 
 pub index : Index
@@ -176,4 +202,5 @@ index =
       note5 = note-5;
       note6 = note-6;
       note7 = note-7;
+      note8 = note-8;
     }

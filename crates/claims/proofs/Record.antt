@@ -64,7 +64,7 @@ module _ {job : JobRecord} {o a : List ℕ} {r : ℕ} {o′ a′ : List ℕ} (c 
       go true e = yes-case e
       go false e = no-case e
 
-  enough : longestSheet ≤ length o → r ≢ 55
+  enough : longestSheet (job .form) ≤ length o → r ≢ 55
   enough h is = passes-or (λ p. omega (arith, writes p (omega (arith, short job (c .shaped) p)) .0 .0)) (λ p. omega (arith, refuses p .0 .0))
 
   exactly : (r ≡ 54) ↔ ¬ HasSheet job

@@ -7,8 +7,8 @@ use Rattle.model.specs.Form as Form
 use Rattle.model.specs.Accepted as Accepted
 use Rattle.model.specs.Classes as Classes
 use Rattle.model.specs.Written as Written
+use Rattle.model.specs.Owners as OwnersRead
 use Rattle.model.specs.{Job.Job}
-use Rattle.model.specs.declared.Level.the-variants.{High}
 use Rattle.model_run.specs.Secrecy as Secrecy
 use Rattle.model_run.specs.Counted as Counted
 use Rattle.model_run.specs.Examples as Examples
@@ -17,6 +17,7 @@ use Rattle.model_run.specs.CallKinds as CallKinds
 use Rattle.model_run.specs.Clamped as Clamped
 use Rattle.model_run.specs.Honest as Honest
 use Rattle.model_run.specs.HonestExamples as HonestExamples
+use Rattle.model_run.specs.Owners as Owners
 use Rattle.model_text.specs.Pasted as Pasted
 use Rattle.model_text.specs.Examples as TextExamples
 use Rattle.model_log.specs.Claims as LogClaims
@@ -28,7 +29,7 @@ use Rattle.model_sheet.specs.Claims as SheetClaims
 use Rattle.model_sheet.specs.Examples as SheetExamples
 use Rattle.model_record.specs.Claims as RecordClaims
 use Rattle.model_record.specs.Examples as RecordExamples
-use Rattle.claims.specs.Demands.{Demand1Holds, Demand2Holds, Demand3Holds, SeventhHolds, HonestSendsHolds, Telling, HonestTelling}
+use Rattle.claims.specs.Demands.{Demand1Holds, Demand2Holds, Demand3Holds, SeventhHolds, HonestSendsHolds, Telling, HonestTelling, OwnersTelling}
 use Rattle.claims.specs.Log.{LogWrittenHolds, LogTelling}
 use Rattle.claims.specs.Blocks.{BlocksWrittenHolds, BlocksTelling}
 use Rattle.claims.specs.Record.{SheetWrittenHolds, RecordReadHolds, SavedThenOpened, OpenedThenSaved, SavedRuns, RecordTelling}
@@ -40,13 +41,14 @@ pub record Document01 : Type 0 where
   pub demand1 : Demand1Holds
   -- Demand 2: the answer, the return and the output memory are the paired model's
   pub demand2 : Demand2Holds
-  -- Demand 3: two accepted sheets that differ in secret entries only are the same outside the secret columns
+  -- Demand 3: two accepted sheets that differ in secret entries only are the same outside the secret columns; of one
+  -- owner's entries and columns, and of both owners'
   pub demand3 : Demand3Holds
   -- calls of which the demands speak, and what demand 3 shuts out
   pub calls : Telling
   -- demand 3 over jobs, and over sheets as texts
-  pub secrecy : Secrecy.SecrecyOf High
-  pub sheetSecrecy : Secrecy.SheetSecrecyOf High
+  pub secrecy : Secrecy.JobsSecret
+  pub sheetSecrecy : Secrecy.SheetsSecret
   -- two sheets to which demand 3 applies, and whose outputs differ
   pub telling : Witness.Telling
   -- what each count of a run is, and the bounds of the counts; runs that reach them
@@ -96,7 +98,8 @@ pub record Note2 : Type 0 where
   -- at a call of the other kind an execution idles, from any state and for the rest of the run
   pub idlesOn : CallKinds.IdlesOn
   pub idles : CallKinds.AlwaysIdles
-  -- by whatever rule the high execution goes, only secret columns can tell
+  -- by whatever rule an owner's execution goes, only its columns can tell; by whatever rule both go, only secret ones
+  pub theirs : CallKinds.OnlyTheirs
   pub columns : CallKinds.OnlySecretColumns
   pub sheetColumns : CallKinds.OnlySecretColumnsOfSheets
   pub makersSheet : CallKinds.MakersSheet
@@ -200,9 +203,38 @@ pub record Note7 : Type 0 where
   pub beyondCounts : RecordClaims.BeyondCounts
   pub short : RecordClaims.Short
   pub runsAlike : RecordClaims.RunsAlike
-  -- sheet A's record, and 18 more
+  -- sheet A's record and that of a sheet of two owners, and 36 more
   pub worked : RecordExamples.Worked
   pub examples : RecordExamples.AllHold RecordExamples.list
+  pub ofTwo : RecordExamples.AllHold RecordExamples.ofTwo
+
+-- ---- Document 02, Note 8: two owners of secrets. (The secrecy rule "for either owner by one proof": `Document01.demand3`.)
+
+pub record Note8 : Type 0 where
+  -- calls with sheets of two owners: demand 3 for B and for both, and what it does not say
+  pub calls : OwnersTelling
+  -- exactly which numbers of forms, owners and letters are read, and what the others get
+  pub forms : OwnersRead.FormsTold
+  pub owners : OwnersRead.OwnersTold
+  pub letters : OwnersRead.LettersTold
+  -- each execution reads and changes its own fields
+  pub fields : OwnersRead.FieldsApart
+  -- sheets of both forms that are accepted, those that are refused in the order of the tests, and the limits
+  pub accepts : OwnersRead.AllHold OwnersRead.accepts
+  pub refuses : OwnersRead.AllHold OwnersRead.refuses
+  pub limits : OwnersRead.AllHold OwnersRead.limits
+  -- what each execution sees of a message line, what with no line left, and whose column is whose
+  pub sees : Owners.AlwaysSees
+  pub noLineLeft : Owners.NoLineLeft
+  pub shows : Owners.AlwaysShows
+  -- `sheet=1` runs as before: no run looks at the form, nor at the execution of an owner without keys, as B is there
+  pub runsAlike : Owners.RunsAlike
+  pub notLookedAt : Owners.NotLookedAt
+  pub oneOwner : Owners.OneOwner
+  -- runs of three executions; sheets that differ in B's entry and in entries of both
+  pub examples : Examples.AllHold Owners.examples
+  pub tellingB : Owners.TellingB
+  pub tellingBoth : Owners.TellingBoth
 
 -- ---- All of them
 
@@ -215,3 +247,4 @@ pub record Index : Type 0 where
   pub note5 : Note5
   pub note6 : Note6
   pub note7 : Note7
+  pub note8 : Note8

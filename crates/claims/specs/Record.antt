@@ -35,7 +35,7 @@ pub record SheetWritten (job : JobRecord) (output : List ℕ) (returned : ℕ) (
   -- "55, after it, if the lent memory is too short"
   pub lacks : passes job ≡ true → length output < length (textOf job) → TwoNumbers 55 0 returned answer′ × (output′ ≡ output)
   -- with 6,270 bytes lent it never is
-  pub enough : longestSheet ≤ length output → returned ≢ 55
+  pub enough : longestSheet (job .form) ≤ length output → returned ≢ 55
   -- 54 exactly if no accepted sheet has this record in what its counts cover
   pub exactly : (returned ≡ 54) ↔ ¬ HasSheet job
   pub size : length output′ ≡ length output

@@ -7,19 +7,20 @@ use lib.{Dec.eqb, Dec.leb, Dec.ltb, IntN.ℤ, IntN.pos, IntN.negsuc, ListN.lengt
 use lib.{ListN.length-append}
 use borrow.Author.Tests.{eq-eqb, leb-true, ltb-true, ltb-false}
 use native.Mathlib.Omega.{arith}
-use Rattle.model.specs.{Limits.mostBytes, Limits.variables, Limits.greatestNumber, Form.formOf}
+use Rattle.model.specs.{Limits.mostBytes, Limits.variables, Limits.greatestNumber, Limits.forms, Form.formOf}
 use Rattle.model.specs.{Limits.leastNumber, Parsed.Parsed, Parsed.got, Parsed.refused, Parsed.need, Parsed._>>=_, Parsed._>>_, Text.bytes, Text.same, Text.divide}
 use Rattle.model.specs.{Text.split, Text.lines, Text.count, Text.lineFeed, Text.space, Text.comma, Text.minus, Text.colon, Number.natural, Number.within}
 use Rattle.model.specs.{Number.upTo, Number.fromOne, Number.negative, Number.positive, Number.number, Command.Row, Command.Limits, Command.table, Command.blank}
 use Rattle.model.specs.{Command.operand, Command.operands, Command.rowOf, Command.byRow, Command.words, Command.readCommand, Command.limits, Pair.ByKey}
-use Rattle.model.specs.{Pair.everywhere, Pair.pair, Pair.part, Head.sheetLine, Head.keysLine, Head.secretLine, Head.allOpen, Head.readFirst, Head.readKeys}
-use Rattle.model.specs.{Head.readSecrets, Messages.parts, Messages.allAbsent, Messages.message, Messages.messageLine, Messages.readMessages, Turns.letter}
+use Rattle.model.specs.{Pair.everywhere, Pair.pair, Pair.part, Head.sheetLine, Head.keysLine, Head.apart, Head.owner, Head.secret, Head.secretLine, Head.allOpen, Head.readFirst, Head.readKeys}
+use Rattle.model.specs.{Head.readSecrets, Messages.parts, Messages.allAbsent, Messages.message, Messages.messageLine, Messages.readMessages, Turns.letterB, Turns.second, Turns.letter}
 use Rattle.model.specs.{Turns.letters, Turns.turnsLine, Turns.nothingAfter, Turns.readTurns, Job.Job, Phase.Phase, Phase.after, Phase.one, Phase.many}
 use Rattle.model.specs.{Phase.oneMore, Phase.some, Phase.numbered, Phase.onward, Phase.eachLine, Sheet.Reading, Sheet.accepted, Sheet.next, Sheet.targets}
 use Rattle.model.specs.{Sheet.readBody, Sheet.readLines, Sheet.forbiddenLine, Sheet.closed, Sheet.readSheet, Program.readCommands, Accepted.rowFor}
-use Rattle.model.specs.{Accepted.ordinal, Accepted.has, Accepted.kept, Accepted.Bare, Accepted.InRange, Accepted.KeyInRange, Accepted.EntryInRange, Accepted.Within}
+use Rattle.model.specs.{Accepted.ordinal, Accepted.has, Accepted.kept, Accepted.Bare, Accepted.InRange, Accepted.KeyInRange, Accepted.OwnerBy, Accepted.KeyBy, Accepted.LevelBy, Accepted.EntryInRange, Accepted.Within}
 use Rattle.model.specs.{Accepted.Every, Accepted.Full, Accepted.SoundBy, Accepted.Sound, Accepted.AcceptedSound, Accepted.KeysRise}
-use Rattle.model.specs.Data.{Form, Entry, Absent, Number, Key, Open, Secret, Op, Command, Operand, InV, InW, InK, InT, InN, Level}
+use Rattle.model.specs.Data.{Form, Entry, Absent, Number, Key, Open, Secret, Op, Command, Operand, InV, InW, InK, InT, InN, Level, Owner, A, B}
+use Rattle.model.proofs.Forms.{every-form-fits, form-number}
 use Rattle.model.specs.Phase as Phase
 use Rattle.model.specs.Sheet as Sheet
 
@@ -64,7 +65,7 @@ module _ {A : Type 0} (P : A → Type 0) where
 -- ---- What holds of whatever is read
 
 -- a fact of the value that a piece of text gives, if it gives one
-abbrev GotOf : {A : Type 0} → (A → Type 0) → Parsed A → Type 0
+abbrev pub GotOf : {A : Type 0} → (A → Type 0) → Parsed A → Type 0
 GotOf P (got a) = P a
 GotOf P (refused n) = Unit {0}
 
@@ -151,10 +152,42 @@ module _ {A : Type 0} (P : A → Type 0) (K : ℕ) where
       bind (Rising K (e .next)) (Held P K) (pair K (e .next) p) _ (pair-ok K (e .next) p some)
       (λ kv r. (length-set (e .at) (kv .0) (f (kv .1)) ∙ h .0, every-set P (e .at) (kv .0) (f (kv .1)) (h .1) (range (kv .1) (r .2))))
 
+-- ---- `secret` lines
+
+-- a key that was read: its dummy is in range, and its owner one of the form's
+abbrev KeyFine : Bool → Key → Type 0
+KeyFine two k = KeyInRange k × KeyBy two k
+
+two-owners : (o : Owner) → OwnerBy true o
+two-owners A = tt
+two-owners B = refl
+
+owner-ok : (two : Bool) (s : List ℕ) → GotOf (λ (po : List ℕ × List ℕ). GotOf (OwnerBy two) (owner (po .1))) (apart two s)
+unfolding apart owner
+owner-ok false s = tt
+owner-ok true s =
+    let named : (t : List ℕ) → GotOf (OwnerBy true) (owner t) = λ t. imply Any (OwnerBy true) (owner t) (λ o h. two-owners o) (any (owner t)) in
+    bind Any _ (divide colon 4 s) _ (any (divide colon 4 s)) (λ kv h. bind Any _ (divide colon 4 (kv .1)) _ (any (divide colon 4 (kv .1))) (λ vo g. named (vo .1)))
+
 module _ (K : ℕ) (some : 1 ≤ K) where
-  secret-ok : (e : ByKey Key) (s : List ℕ) → Held KeyInRange K e → GotOf (Held KeyInRange K) (secretLine K e s)
+  -- its key is one of the keys, and it is as it must be
+  abbrev SecretFine : Bool → ℕ × Key → Type 0
+  SecretFine two kx = (kx .0 < K) × KeyFine two (kx .1)
+
+  one-secret-ok : (two : Bool) (next : ℕ) (s : List ℕ) → GotOf (SecretFine two) (secret two K next s)
+  unfolding secret
+  one-secret-ok two next s =
+      let P = SecretFine two in
+      bind _ P (apart two s) _ (owner-ok two s) (λ po own.
+      bind (Rising K next) P (pair K next (po .0)) _ (pair-ok K next (po .0) some) (λ kv r.
+      bind (OwnerBy two) P (owner (po .1)) _ own (λ o mine. (r .1, (r .2, mine)))))
+
+  secret-ok : (f : Form) (e : ByKey Key) (s : List ℕ) → Held (KeyFine (f .owners)) K e → GotOf (Held (KeyFine (f .owners)) K) (secretLine f K e s)
   unfolding secretLine
-  secret-ok e s h = part-ok KeyInRange K Secret (λ z r. r) some e s h
+  secret-ok f e s h =
+      let P = KeyFine (f .owners) in
+      bind (SecretFine (f .owners)) (Held P K) (secret (f .owners) K (e .next) s) _ (one-secret-ok (f .owners) (e .next) s)
+      (λ kx r. (length-set (e .at) (kx .0) (kx .1) ∙ h .0, every-set P (e .at) (kx .0) (kx .1) (h .1) (r .1)))
 
   parts-ok : (e : ByKey Entry) (ps : List (List ℕ)) → Held EntryInRange K e → GotOf (Held EntryInRange K) (parts K e ps)
   unfolding parts
@@ -281,24 +314,36 @@ command-ok l some s = go (split space s)
 
 -- ---- Letters
 
+second-ok : (two : Bool) (b : ℕ) → GotOf (LevelBy two) (second two b)
+second-ok false b = tt
+second-ok true b = either (GotOf (LevelBy true)) (eqb b letterB) _ _ refl tt
+
 module _ (f : Form) where
-  letters-ok : (s : List ℕ) → GotOf (λ (ls : List Level). length ls ≡ length s) (letters f s)
+  letter-ok : (b : ℕ) → GotOf (LevelBy (f .owners)) (letter f b)
+  unfolding letter
+  letter-ok b = either (GotOf (LevelBy (f .owners))) (eqb b (f .low)) _ _ tt (either (GotOf (LevelBy (f .owners))) (eqb b (f .high)) _ _ tt (second-ok (f .owners) b))
+
+  -- so many levels, each of the form
+  abbrev Levels : ℕ → List Level → Type 0
+  Levels n ls = (length ls ≡ n) × Every (LevelBy (f .owners)) ls
+
+  letters-ok : (s : List ℕ) → GotOf (Levels (length s)) (letters f s)
   unfolding letters
-  letters-ok [] = refl
+  letters-ok [] = (refl, tt)
   letters-ok (b ∷ bs) =
-      bind Any (λ (ls : List Level). length ls ≡ suc (length bs)) (letter f b) _ (any (letter f b)) (λ l h.
-      bind (λ (ls : List Level). length ls ≡ length bs) (λ (ls : List Level). length ls ≡ suc (length bs)) (letters f bs) _ (letters-ok bs) (λ ls e. ap suc e))
+      bind (LevelBy (f .owners)) (Levels (suc (length bs))) (letter f b) _ (letter-ok b) (λ l h.
+      bind (Levels (length bs)) (Levels (suc (length bs))) (letters f bs) _ (letters-ok bs) (λ ls e. (ap suc (e .0), (h, e .1))))
 
   abbrev Lettered : List Level → Type 0
-  Lettered ls = (1 ≤ length ls) × (length ls ≤ f .letters)
+  Lettered ls = (1 ≤ length ls) × (length ls ≤ f .letters) × Every (LevelBy (f .owners)) ls
 
   turns-ok : (s : List ℕ) → GotOf Lettered (turnsLine f s)
   unfolding turnsLine
   turns-ok s =
       guard Lettered (leb (length s) (f .letters)) 8 _ (λ e.
       guard Lettered (leb 1 (length s)) 9 _ (λ g.
-      imply (λ (ls : List Level). length ls ≡ length s) Lettered (letters f s)
-      (λ ls n. (omega (arith, leb-true 1 (length s) g), omega (arith, leb-true (length s) (f .letters) e))) (letters-ok s)))
+      imply (Levels (length s)) Lettered (letters f s)
+      (λ ls n. (omega (arith, n .0, leb-true 1 (length s) g), omega (arith, n .0, leb-true (length s) (f .letters) e), n .1)) (letters-ok s)))
 
 -- ---- Phases
 
@@ -374,27 +419,33 @@ nothing-ok P (Phase.got a n []) h = h
 nothing-ok P (Phase.got a n (l ∷ ls)) h = tt
 nothing-ok P (Phase.refused r n) h = tt
 
-secrets-ok : (K : ℕ) → 1 ≤ K → (n : ℕ) (ls : List (List ℕ)) → ReadOf (Held KeyInRange K) (readSecrets K n ls)
+secrets-ok : (f : Form) (K : ℕ) → 1 ≤ K → (n : ℕ) (ls : List (List ℕ)) → ReadOf (Held (KeyFine (f .owners)) K) (readSecrets f K n ls)
 unfolding readSecrets
-secrets-ok K some n ls = many-ok (Held KeyInRange K) (bytes "secret") (secretLine K) n (allOpen K) ls (λ e s h. secret-ok K some e s h) (everywhere-ok KeyInRange K Open tt)
+secrets-ok f K some n ls =
+    let P = KeyFine (f .owners) in
+    many-ok (Held P K) (bytes "secret") (secretLine f K) n (allOpen K) ls (λ e s h. secret-ok K some f e s h) (everywhere-ok P K Open (tt, tt))
 
 -- ---- The phases of a sheet of the form f
 
-module _ (f : Form) where
+module _ (f : Form) (own : formOf (f .number) ≡ f) (numbered : (1 ≤ f .number) × (f .number ≤ forms)) where
   abbrev Coming : ℕ → List Command → Type 0
   Coming K cs = (1 ≤ length cs) × AtMost (Plain (limits K (f .commands))) (f .commands) cs
 
   -- what the phases read, put together
   finished : (K : ℕ) (ks : ByKey Key) (cs : List Command) (ms : List (List Entry)) (ts : List Level)
-      → Positive (f .keys) K → Held KeyInRange K ks → Coming K cs → AtMost (Full K) (f .messages) ms → Lettered f ts
+      → Positive (f .keys) K → Held (KeyFine (f .owners)) K ks → Coming K cs → AtMost (Full K) (f .messages) ms → Lettered f ts
       → Every (λ (c : Command). c .t ≤ length cs) cs
-      → SoundBy f (record { keys = ks .at; commands = cs; messages = ms; turns = ts })
+      → Sound (record { form = f .number; keys = ks .at; commands = cs; messages = ms; turns = ts })
   finished K ks cs ms ts hk held hc hm ht far =
       let e : K ≡ length (ks .at) = sym (held .0) in
-      record {
+      let P = KeyFine (f .owners) in
+      subst (λ (g : Form). SoundBy g (record { form = f .number; keys = ks .at; commands = cs; messages = ms; turns = ts })) (sym own)
+      (record {
+        form = numbered;
         someKeys = omega (arith, hk .0, held .0);
         mostKeys = omega (arith, hk .1, held .0);
-        keys = held .1;
+        keys = every-both P P KeyInRange (λ k h g. h .0) (ks .at) (held .1) (held .1);
+        owners = every-both P P (KeyBy (f .owners)) (λ k h g. h .1) (ks .at) (held .1) (held .1);
         someCommands = hc .0;
         mostCommands = hc .1 .0;
         commands =
@@ -405,7 +456,8 @@ module _ (f : Form) where
         messages = subst (λ (n : ℕ). Every (Full n) ms) e (hm .1);
         someTurns = ht .0;
         mostTurns = ht .1;
-      }
+        levels = ht .2;
+      })
 
   module _ (K : ℕ) (some : 1 ≤ K) (n : ℕ) (ls : List (List ℕ)) where
     commands-ok : ReadOf (Coming K) (readCommands f K n ls)
@@ -427,26 +479,28 @@ module _ (f : Form) where
   unfolding readTurns
   letters-read-ok n ls = nothing-ok (Lettered f) (one (bytes "turns") (turnsLine f) n ls) (one-ok (Lettered f) (bytes "turns") (turnsLine f) n ls (turns-ok f))
 
-  body-ok : (K : ℕ) (ks : ByKey Key) (top : ℕ) (ls : List (List ℕ)) → Positive (f .keys) K → Held KeyInRange K ks → AcceptedOf (SoundBy f) (readBody f (ks .at) K top ls)
+  body-ok : (K : ℕ) (ks : ByKey Key) (top : ℕ) (ls : List (List ℕ)) → Positive (f .keys) K → Held (KeyFine (f .owners)) K ks → AcceptedOf Sound (readBody f (ks .at) K top ls)
   unfolding readBody
   body-ok K ks top ls hk held =
-      next-ok (SoundBy f) (Coming K) (readCommands f K top ls) _ (commands-ok K (hk .0) top ls) (λ cs n₁ ls₁ hc.
-      next-ok (SoundBy f) (AtMost (Full K) (f .messages)) (readMessages f K n₁ ls₁) _ (messages-ok K (hk .0) n₁ ls₁) (λ ms n₂ ls₂ hm.
-      next-ok (SoundBy f) (Lettered f) (readTurns f n₂ ls₂) _ (letters-read-ok n₂ ls₂) (λ ts n₃ ls₃ ht.
-      targets-ok (SoundBy f) top (length cs) cs _ (finished K ks cs ms ts hk held hc hm ht))))
+      next-ok Sound (Coming K) (readCommands f K top ls) _ (commands-ok K (hk .0) top ls) (λ cs n₁ ls₁ hc.
+      next-ok Sound (AtMost (Full K) (f .messages)) (readMessages f K n₁ ls₁) _ (messages-ok K (hk .0) n₁ ls₁) (λ ms n₂ ls₂ hm.
+      next-ok Sound (Lettered f) (readTurns f n₂ ls₂) _ (letters-read-ok n₂ ls₂) (λ ts n₃ ls₃ ht.
+      targets-ok Sound top (length cs) cs _ (finished K ks cs ms ts hk held hc hm ht))))
 
   keys-ok : (n : ℕ) (ls : List (List ℕ)) → ReadOf (Positive (f .keys)) (readKeys f n ls)
   unfolding readKeys keysLine
   keys-ok n ls = one-ok (Positive (f .keys)) (bytes "keys") (keysLine f) n ls (λ s. fromOne-ok (f .keys) s)
 
--- the first line chooses the form, and there is one
+-- the first line chooses the form
 lines-ok : (ls : List (List ℕ)) → AcceptedOf Sound (readLines ls)
-unfolding readLines readFirst formOf
+unfolding readLines readFirst
 lines-ok ls =
     next-ok Sound Any (readFirst 1 ls) _ (one-ok Any (bytes "sheet") sheetLine 1 ls (λ s. any (sheetLine s))) (λ a n₁ ls₁ h.
-    next-ok Sound (Positive (formOf a .keys)) (readKeys (formOf a) n₁ ls₁) _ (keys-ok (formOf a) n₁ ls₁) (λ K n₂ ls₂ hk.
-    next-ok Sound (Held KeyInRange K) (readSecrets K n₂ ls₂) _ (secrets-ok K (hk .0) n₂ ls₂) (λ ks top ls₃ held.
-    body-ok (formOf a) K ks top ls₃ hk held)))
+    let f = formOf a in
+    let own = every-form-fits a .own in
+    next-ok Sound (Positive (f .keys)) (readKeys f n₁ ls₁) _ (keys-ok f own (form-number a) n₁ ls₁) (λ K n₂ ls₂ hk.
+    next-ok Sound (Held (KeyFine (f .owners)) K) (readSecrets f K n₂ ls₂) _ (secrets-ok f K (hk .0) n₂ ls₂) (λ ks top ls₃ held.
+    body-ok f own (form-number a) K ks top ls₃ hk held)))
 
 sheet-ok : (s : List ℕ) → AcceptedOf Sound (readSheet s)
 unfolding readSheet
@@ -457,6 +511,10 @@ sheet-ok s =
 
 pub accepted-sound : AcceptedSound
 accepted-sound s j e = subst (AcceptedOf Sound) e (sheet-ok s)
+
+-- a secret that is read is at one of the keys
+pub secret-below : (two : Bool) (K next : ℕ) (s : List ℕ) (kx : ℕ × Key) → 1 ≤ K → secret two K next s ≡ got kx → kx .0 < K
+secret-below two K next s kx some e = subst (GotOf (SecretFine K some two)) e (one-secret-ok K some two next s) .0
 
 pub keys-rise : KeysRise
 keys-rise K next p kv some e = subst (GotOf (Rising K next)) e (pair-ok K next p some)

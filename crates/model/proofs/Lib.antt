@@ -11,3 +11,4 @@ pub mod Refused
 pub mod Written
 pub mod Classes
 pub mod Opened
+pub mod Owners

@@ -19,7 +19,7 @@ unfolding Text.bytes Text.classOf Text.same Text.find Text.divide Text.split Tex
     Number.digits Number.natural Number.within Number.upTo Number.fromOne Number.negative Number.positive Number.number
     Phase.after Phase.one Phase.many Phase.oneMore
     Pair.pair Pair.part
-    Head.sheetLine Head.keysLine Head.secretLine Head.readFirst Head.readKeys Head.readSecrets
+    Head.sheetLine Head.keysLine Head.apart Head.owner Head.secret Head.secretLine Head.readFirst Head.readKeys Head.readSecrets
     Command.table Command.operand Command.operands Command.rowOf Command.byRow Command.words Command.readCommand
     Program.readCommands
     Messages.parts Messages.message Messages.messageLine Messages.readMessages

@@ -4,7 +4,7 @@ use Prim.Native.String.{String}
 use mathlib.Core.List.{List, _++_, [], _∷_}
 use Rattle.model.specs.{Text.bytes, Command.blank, Job.Job}
 use lib.{IntN.pos}
-use Rattle.model.specs.Data.{Entry, Number, Key, Open, Secret, Read, Put, Receive, Send, Stop, Level, Low, High}
+use Rattle.model.specs.Data.{Entry, Number, Key, Open, Secret, Read, Put, Receive, Send, Stop, Level, Low, High, A}
 
 -- Sheet A, with what follows `msg=` and `turns=`
 unfoldable pub sheetA : String → String → List ℕ
@@ -13,11 +13,12 @@ sheetA m t =
     ++ (bytes m ++ (bytes "\nturns=" ++ (bytes t ++ bytes "\n")))
 
 abbrev pub keysA : List Key
-keysA = Open ∷ Secret (pos 300) ∷ []
+keysA = Open ∷ Secret A (pos 300) ∷ []
 
 abbrev pub jobA : Entry → List Level → Job
 jobA e ls =
     record {
+      form = 1;
       keys = keysA;
       commands =
           blank Receive ∷ record { op = Read; v = 0; w = 0; k = 1; t = 0; n = pos 0 } ∷ record { op = Put; v = 0; w = 0; k = 1; t = 0; n = pos 0 }
@@ -28,7 +29,7 @@ jobA e ls =
 
 -- "turns=LHLHLHLHLH"
 abbrev pub ten : List Level
-ten = Low ∷ High ∷ Low ∷ High ∷ Low ∷ High ∷ Low ∷ High ∷ Low ∷ High ∷ []
+ten = Low ∷ High A ∷ Low ∷ High A ∷ Low ∷ High A ∷ Low ∷ High A ∷ Low ∷ High A ∷ []
 
 abbrev pub job1 : Job
 job1 = jobA (Number (pos 1480)) ten

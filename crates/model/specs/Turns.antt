@@ -1,22 +1,33 @@
 -- The line `turns` of a sheet of the form f, and nothing after it.
 use Prim.Native.Nat.{ℕ}
-use mathlib.Core.Bool.{cond}
+use mathlib.Core.Bool.{Bool, true, false, cond}
 use lib.{Dec.eqb, Dec.leb, ListN.length}
 use mathlib.Core.List.{List, [], _∷_}
 use Rattle.model.specs.{Parsed.Parsed, Parsed.got, Parsed.refused, Parsed._>>=_, Parsed.need, Parsed._>>_, Text.bytes, Phase.Phase, Phase.one}
-use Rattle.model.specs.Data.{Form, Level, Low, High}
+use Rattle.model.specs.Data.{Form, Level, Low, High, A, B}
 use Rattle.model.specs.Phase as Phase
 
--- the letters `L` and `H`
+-- the letters `L` and `H`; document 02, Note 8: "turns use `L`, `A`, `B`"
 abbrev pub letterL : ℕ
 letterL = 76
 
 abbrev pub letterH : ℕ
 letterH = 72
 
--- Refusal 9: "no byte after `turns=`, or one other than `L` and `H`"
+abbrev pub letterA : ℕ
+letterA = 65
+
+abbrev pub letterB : ℕ
+letterB = 66
+
+-- the letter of the second owner, in a form that has one
+abbrev pub second : Bool → ℕ → Parsed Level
+second false b = refused 9
+second true b = cond (eqb b letterB) (got (High B)) (refused 9)
+
+-- Refusal 9: "no byte after `turns=`, or one other than `L` and `H`"; Note 8: "9 tests the new letters"
 unfoldable pub letter : Form → ℕ → Parsed Level
-letter f b = cond (eqb b (f .low)) (got Low) (cond (eqb b (f .high)) (got High) (refused 9))
+letter f b = cond (eqb b (f .low)) (got Low) (cond (eqb b (f .high)) (got (High A)) (second (f .owners) b))
 
 unfoldable pub letters : Form → List ℕ → Parsed (List Level)
 letters f [] = got []

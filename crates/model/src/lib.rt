@@ -8,7 +8,7 @@ ghost use lib.ListN.{replicate};
 ghost use Rattle.model.specs.{Limits.variables, Command.blank, Execution.begun as Execution·begun, Execution.afterOf, Execution.calledOf, Execution.callsBy};
 ghost use Rattle.model.specs.{Stored.keyCapacity, Stored.commandCapacity, Stored.messageCapacity, Stored.openSlot, Stored.absentSlot, Stored.blankLine};
 ghost use Rattle.model.specs.{Stored.nothingStored};
-ghost use Rattle.model.specs.Form.{formOne};
+ghost use Rattle.model.specs.Form.{formOne, formTwo, formOf, thirdOf};
 ghost use Rattle.model.specs.declared.Op.the-variants.{Set};
 
 // The limits of every sheet.
@@ -19,10 +19,10 @@ pub const LAST_VARIABLE: u64 = 7;
 // The words of the table of commands.
 pub const WORDS: u32 = 15;
 
-// The number of the one form that there is.
-pub const FORM_NUMBER: u64 = 1;
+// The forms of sheets: their numbers go from 1 to this.
+pub const FORMS: u64 = 2;
 
-// The limits of a sheet that begins `sheet=1`.
+// The limits of a sheet, of either form.
 const MOST_KEYS: u64 = 8;
 
 const MOST_COMMANDS: usize = 64;
@@ -62,29 +62,66 @@ pub const TEXT_NUMBERS: usize = 3;
 
 pub const TEXT_ANSWER_BYTES: usize = 4 * TEXT_NUMBERS;
 
-// A form of sheets, which the line `sheet` chooses: the most keys, commands, messages and letters that such a sheet may have, and the bytes of the
-// letters of its turns.
+// A form of sheets, which the line `sheet` chooses: the most keys, commands, messages and letters that such a sheet may have, the bytes of the
+// letters of its low turns and of the first owner's, and whether there is a second owner, so that each `secret` line names one.
 pub struct Form {
+    pub number: u64,
     pub keys: u64,
     pub commands: usize,
     pub messages: usize,
     pub letters: usize,
     pub low: u8,
     pub high: u8,
+    pub owners: bool,
 }
 
 impl Form {
-    // The form of `sheet=1`.
+    // The form of a number.
+    pub fn of(number: u64) -> Form
+        ensures { λ r. ⌜ r ≡ formOf number ⌝ }
+    {
+        if number == 2 {
+            return Form::two();
+        }
+        Form::one()
+    }
+
+    // The letter of the second owner's turns, or where there is none that of the first's again: so a byte is held to three letters whatever the form.
+    pub fn third(self) -> u8
+        ensures { λ r. ⌜ r ≡ thirdOf self ⌝ }
+    {
+        if self.owners { b'B' } else { self.high }
+    }
+
+    // The form of `sheet=1`: one owner, who is not named.
     pub fn one() -> Form
         ensures { λ r. ⌜ r ≡ formOne ⌝ }
     {
         Form {
+            number: 1,
             keys: MOST_KEYS,
             commands: MOST_COMMANDS,
             messages: MOST_MESSAGES,
             letters: MOST_LETTERS,
             low: b'L',
             high: b'H',
+            owners: false,
+        }
+    }
+
+    // The form of `sheet=2`: two owners.
+    pub fn two() -> Form
+        ensures { λ r. ⌜ r ≡ formTwo ⌝ }
+    {
+        Form {
+            number: 2,
+            keys: MOST_KEYS,
+            commands: MOST_COMMANDS,
+            messages: MOST_MESSAGES,
+            letters: MOST_LETTERS,
+            low: b'L',
+            high: b'A',
+            owners: true,
         }
     }
 }
@@ -95,16 +132,23 @@ pub enum Entry {
     Number(i32),
 }
 
-// A key's two fields in the message that the executions share.
+// A key's fields in the message that the executions share, one for each.
 pub struct Field {
     pub low: Entry,
-    pub high: Entry,
+    pub a: Entry,
+    pub b: Entry,
 }
 
-// A key is open, or secret with its dummy.
+// The owners of secrets. In a sheet of the first form all are A's.
+pub enum Owner {
+    A,
+    B,
+}
+
+// A key is open, or secret with its owner and its dummy.
 pub enum Key {
     Open,
-    Secret(i32),
+    Secret(Owner, i32),
 }
 
 // The words of the commands.
@@ -169,10 +213,10 @@ pub struct Computed {
     pub clamps: usize,
 }
 
-// An execution's level, which is also a letter of turns: L or H.
+// An execution's level, which is also a letter of turns: L, or that of an owner.
 pub enum Level {
     Low,
-    High,
+    High(Owner),
 }
 
 // The record of one execution: its place, the calls that it has made, its clamped results, and its variables. These come last: the compiler knows that a
@@ -305,6 +349,7 @@ impl MessageLine {
 
 // A job in arrays. Of each array only as much counts as the number beside it says; a turn letter is its byte.
 pub struct StoredJob {
+    pub form: u64,
     pub keys: usize,
     pub secrets: [KeySlot; KEY_CAPACITY],
     pub command_count: usize,
@@ -352,6 +397,7 @@ impl StoredJob {
         let commands = StoredJob::no_commands();
         let messages = StoredJob::no_messages();
         StoredJob {
+            form: 1,
             keys: 0,
             secrets,
             command_count: 0,

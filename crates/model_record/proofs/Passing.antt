@@ -3,9 +3,9 @@ use mathlib.Core.Path.{_≡_}
 use mathlib.Core.Bool.{true}
 use Prim.Native.Nat.{ℕ, _≤_}
 use native.Mathlib.Omega.{arith}
-use lib.{Dec.eqb, Dec.leb, ListN.take}
-use borrow.Author.Tests.{eqb-true, eq-eqb, leb-true, le-leb}
-use Rattle.model.specs.{Limits.formNumber, Text.between, Form.formOne, Form.formOf, Accepted.Every}
+use lib.{Dec.leb, ListN.take}
+use borrow.Author.Tests.{leb-true, le-leb}
+use Rattle.model.specs.{Limits.forms, Text.between, Form.formOf, Accepted.Every}
 use Rattle.model_text.proofs.TextLaws.{and-both, between-in}
 use Rattle.model_record.specs.Data.{MessageRecord, JobRecord}
 use Rattle.model_record.specs.Record.{all, secretsFit, commandFits, entriesFit, messageFits, letterFits, countsFit, passes}
@@ -13,19 +13,19 @@ use Rattle.model_record.proofs.Tests.{and-made, Pass, all-every, every-
 
 -- the tests of `countsFit` first, and then those of what the counts cover
 pub record Passing (r : JobRecord) : Type 0 where
-  pub form : r .form ≡ formNumber
+  pub form : (1 ≤ r .form) × (r .form ≤ forms)
   pub someKeys : 1 ≤ r .keys
-  pub mostKeys : r .keys ≤ formOne .keys
+  pub mostKeys : r .keys ≤ formOf (r .form) .keys
   pub mostSecrets : r .«secret_count» ≤ r .keys
   pub someCommands : 1 ≤ r .«command_count»
-  pub mostCommands : r .«command_count» ≤ formOne .commands
-  pub mostMessages : r .«message_count» ≤ formOne .messages
+  pub mostCommands : r .«command_count» ≤ formOf (r .form) .commands
+  pub mostMessages : r .«message_count» ≤ formOf (r .form) .messages
   pub someLetters : 1 ≤ r .«letter_count»
-  pub mostLetters : r .«letter_count» ≤ formOne .letters
-  pub secrets : secretsFit (r .keys) (take (r .«secret_count») (r .secrets)) ≡ true
+  pub mostLetters : r .«letter_count» ≤ formOf (r .form) .letters
+  pub secrets : secretsFit (formOf (r .form) .owners) (r .keys) (take (r .«secret_count») (r .secrets)) ≡ true
   pub commands : Every (Pass (commandFits (r .keys) (r .«command_count»))) (take (r .«command_count») (r .commands))
   pub messages : Every (Pass (messageFits (r .keys))) (take (r .«message_count») (r .messages))
-  pub letters : Every (Pass (letterFits formOne)) (take (r .«letter_count») (r .letters))
+  pub letters : Every (Pass (letterFits (formOf (r .form)))) (take (r .«letter_count») (r .letters))
 
 -- a number between two
 between-made : (lo hi b : ℕ) → lo ≤ b → b ≤ hi → between lo hi b ≡ true
@@ -33,22 +33,22 @@ between-made lo hi b l h = and-made (le-leb lo b l) (le-leb b hi h)
 
 -- a record that passes satisfies it
 pub passing : (r : JobRecord) → passes r ≡ true → Passing r
-unfolding passes countsFit formOf
+unfolding passes countsFit
 passing r h =
     let counts = and-both (countsFit r) _ h in
-    let secrets = and-both (secretsFit (r .keys) (take (r .«secret_count») (r .secrets))) _ (counts .1) in
+    let secrets = and-both (secretsFit (formOf (r .form) .owners) (r .keys) (take (r .«secret_count») (r .secrets))) _ (counts .1) in
     let commands = and-both (all (commandFits (r .keys) (r .«command_count»)) (take (r .«command_count») (r .commands))) _ (secrets .1) in
     let messages = and-both (all (messageFits (r .keys)) (take (r .«message_count») (r .messages))) _ (commands .1) in
-    let form = and-both (eqb (r .form) formNumber) _ (counts .0) in
-    let keys = and-both (between 1 (formOne .keys) (r .keys)) _ (form .1) in
+    let form = and-both (between 1 forms (r .form)) _ (counts .0) in
+    let keys = and-both (between 1 (formOf (r .form) .keys) (r .keys)) _ (form .1) in
     let secretCount = and-both (leb (r .«secret_count») (r .keys)) _ (keys .1) in
-    let commandCount = and-both (between 1 (formOne .commands) (r .«command_count»)) _ (secretCount .1) in
+    let commandCount = and-both (between 1 (formOf (r .form) .commands) (r .«command_count»)) _ (secretCount .1) in
     let messageCount = and-both (leb (r .«message_count») _) _ (commandCount .1) in
-    let k = between-in 1 (formOne .keys) (r .keys) (keys .0) in
-    let c = between-in 1 (formOne .commands) (r .«command_count») (commandCount .0) in
-    let l = between-in 1 (formOne .letters) (r .«letter_count») (messageCount .1) in
+    let k = between-in 1 (formOf (r .form) .keys) (r .keys) (keys .0) in
+    let c = between-in 1 (formOf (r .form) .commands) (r .«command_count») (commandCount .0) in
+    let l = between-in 1 (formOf (r .form) .letters) (r .«letter_count») (messageCount .1) in
     record {
-      form = eqb-true (r .form) formNumber (form .0);
+      form = between-in 1 forms (r .form) (form .0);
       someKeys = k .0;
       mostKeys = k .1;
       mostSecrets = leb-true (r .«secret_count») (r .keys) (secretCount .0);
@@ -60,24 +60,24 @@ passing r h =
       secrets = secrets .0;
       commands = all-every (commandFits (r .keys) (r .«command_count»)) (take (r .«command_count») (r .commands)) (commands .0);
       messages = all-every (messageFits (r .keys)) (take (r .«message_count») (r .messages)) (messages .0);
-      letters = all-every (letterFits formOne) (take (r .«letter_count») (r .letters)) (messages .1);
+      letters = all-every (letterFits (formOf (r .form))) (take (r .«letter_count») (r .letters)) (messages .1);
     }
 
 -- nothing else is tested
 pub passed : (r : JobRecord) → Passing r → passes r ≡ true
-unfolding passes countsFit formOf
+unfolding passes countsFit
 passed r p =
     and-made
-    (and-made (eq-eqb (r .form) formNumber (p .form))
-    (and-made (between-made 1 (formOne .keys) (r .keys) (p .someKeys) (p .mostKeys))
+    (and-made (between-made 1 forms (r .form) (p .form .0) (p .form .1))
+    (and-made (between-made 1 (formOf (r .form) .keys) (r .keys) (p .someKeys) (p .mostKeys))
     (and-made (le-leb (r .«secret_count») (r .keys) (p .mostSecrets))
-    (and-made (between-made 1 (formOne .commands) (r .«command_count») (p .someCommands) (p .mostCommands))
+    (and-made (between-made 1 (formOf (r .form) .commands) (r .«command_count») (p .someCommands) (p .mostCommands))
     (and-made (le-leb (r .«message_count») _ (omega (arith, p .mostMessages)))
-    (between-made 1 (formOne .letters) (r .«letter_count») (p .someLetters) (p .mostLetters)))))))
+    (between-made 1 (formOf (r .form) .letters) (r .«letter_count») (p .someLetters) (p .mostLetters)))))))
     (and-made (p .secrets)
     (and-made (every-all (commandFits (r .keys) (r .«command_count»)) (take (r .«command_count») (r .commands)) (p .commands))
     (and-made (every-all (messageFits (r .keys)) (take (r .«message_count») (r .messages)) (p .messages))
-    (every-all (letterFits formOne) (take (r .«letter_count») (r .letters)) (p .letters)))))
+    (every-all (letterFits (formOf (r .form))) (take (r .«letter_count») (r .letters)) (p .letters)))))
 
 -- the two tests of a message
 pub message-passing : (K : ℕ) (m : MessageRecord) → messageFits K m ≡ true

@@ -4,6 +4,7 @@ use mathlib.Core.Bool.{Bool, true, false, true≢false}
 use native.Mathlib.Omega.{arith}
 use Rattle.model.specs.{Job.Job, Sheet.accepted, Sheet.readSheet, Accepted.Sound}
 use Rattle.model_run.specs.{Whole.leave, Whole.runSheet}
+use Rattle.model.proofs.Forms.{every-form-fits}
 use Rattle.model_sheet.specs.Sheet.{sheetText}
 use Rattle.model_sheet.proofs.{Sheet.exactly, Short.short as sheet-short}
 use Rattle.model_record.specs.Data.{JobRecord}
@@ -18,11 +19,12 @@ use Rattle.model_record.proofs.{Said.job-alike, Made.passes-made, Made.
 shaped-sound : (r : JobRecord) → Shaped r → passes r ≡ true → Sound (jobIn r)
 shaped-sound r shape h =
     let p = passing r h in
-    passes-sound r (omega (arith, p .mostCommands, shape .commands)) (omega (arith, p .mostLetters, shape .letters)) h
+    let fits = every-form-fits (r .form) in
+    passes-sound r (omega (arith, p .mostCommands, fits .commands, shape .commands)) (omega (arith, p .mostLetters, fits .letters, shape .letters)) h
 
 -- what the record of a sound job says
 sound-said : (j : Job) (old : JobRecord) → Shaped old → Sound j → said (recordOver j old) ≡ saidBy j
-sound-said j old shape h = said-over j old (omega (arith, h .mostMessages, shape .messages))
+sound-said j old shape h = said-over j old (omega (arith, h .mostMessages, every-form-fits (j .form) .messages, shape .messages))
 
 -- the text of a record that passes is read as its job
 record-read : (r : JobRecord) → Shaped r → passes r ≡ true → readSheet (textOf r) ≡ accepted (jobIn r)
@@ -89,6 +91,7 @@ beyond-counts r t m e = rw (passes-alike r t e, job-alike r t e)
 
 -- no written sheet is refused with 1
 pub short : Short
+unfolding jobIn
 short r shape h = sheet-short (jobIn r) (shaped-sound r shape h)
 
 -- the sheet of a record runs as its job does

@@ -60,7 +60,7 @@ BeyondCounts = (r t : JobRecord) (m : List ℕ) → said r ≡ said t → writeR
 
 -- no written sheet is longer, so 1 never follows, and with so much memory 55 does not
 abbrev pub Short : Type 0
-Short = (r : JobRecord) → Shaped r → passes r ≡ true → length (textOf r) ≤ longestSheet
+Short = (r : JobRecord) → Shaped r → passes r ≡ true → length (textOf r) ≤ longestSheet (r .form)
 
 -- the sheet of a record runs as the record's job does
 abbrev pub RunsAlike : Type 0

@@ -1,9 +1,9 @@
--- Examples of document 02, Note 7: the record of document 01's sheet A, and records that differ from it in one place each.
+-- Examples of document 02, Notes 7 and 8: the records of document 01's sheet A and of a sheet of two owners, and records that differ from them in one place each.
 use Prim.Native.Nat.{ℕ}
 use mathlib.Core.Path.{_≡_}
 use mathlib.Core.List.{List, [], _∷_}
 use lib.{IntN.ℤ, IntN.pos, ListN.replicate, ListN.set}
-use Rattle.model.specs.{Text.bytes, SheetA.sheetA, SheetA.job1}
+use Rattle.model.specs.{Text.bytes, SheetA.sheetA, SheetA.job1, SheetTwo.sheetBoth, SheetTwo.jobBoth, SheetTwo.rounds}
 use Rattle.model_record.specs.Data.{SecretRecord, CommandRecord, EntryRecord, MessageRecord, JobRecord}
 use Rattle.model_record.specs.Record.{keyPlaces, commandPlaces, messagePlaces, letterPlaces, Said, said, textOf, recordOver}
 use Rattle.model_record.specs.Entry.{saved, writeRecord, readEntry}
@@ -62,59 +62,81 @@ saidA =
       letters = (10, bytes "LHLHLHLHLH");
     }
 
+-- the sheet of two owners: `receive`, `read` twice, `add`, `put` twice, `send`
+unfoldable pub recordTwo : JobRecord
+recordTwo = recordOver jobBoth zeros
+
+abbrev pub saidTwo : Said
+saidTwo =
+    record {
+      form = 2;
+      keys = 3;
+      secrets = (2, secret 1 (pos 300) 65 ∷ secret 2 (pos 400) 66 ∷ []);
+      commands = (
+        7,
+        command 12 0 0 0 ∷ command 5 0 1 0 ∷ command 5 1 2 0 ∷ record { word = 1; v = 0; w = 1; k = 0; t = 0; n = pos 0 } ∷ command 7 0 1 0 ∷ command 7 0 2 0
+            ∷ command 13 0 0 0 ∷ [],
+      );
+      messages = (1, (3, entry 0 (pos 7) ∷ entry 1 (pos 10) ∷ entry 2 (pos 20) ∷ []) ∷ []);
+      letters = (21, bytes rounds);
+    }
+
 pub record Worked : Type 0 where
   pub places : Shaped zeros
   pub opens : readEntry textA zeros (replicate 8 0) ≡ record { returned = 0; job = recordA; answer = replicate 8 0 }
   pub held : Shaped recordA
   pub says : said recordA ≡ saidA
   pub text : textOf recordA ≡ textA
+  pub opensTwo : readEntry sheetBoth zeros (replicate 8 0) ≡ record { returned = 0; job = recordTwo; answer = replicate 8 0 }
+  pub saysTwo : said recordTwo ≡ saidTwo
+  pub textTwo : textOf recordTwo ≡ sheetBoth
 
--- ---- Records that differ from it
+-- ---- Records that differ from a record r
 
 -- in the form, the count of keys, and the counts of commands, messages and letters
-unfoldable pub counted : ℕ → ℕ → ℕ → ℕ → ℕ → JobRecord
-counted form keys commands messages letters =
+unfoldable pub counted : JobRecord → ℕ → ℕ → ℕ → ℕ → ℕ → JobRecord
+counted r form keys commands messages letters =
     record {
       form = form;
       keys = keys;
-      «secret_count» = recordA .«secret_count»;
-      secrets = recordA .secrets;
+      «secret_count» = r .«secret_count»;
+      secrets = r .secrets;
       «command_count» = commands;
-      commands = recordA .commands;
+      commands = r .commands;
       «message_count» = messages;
-      messages = recordA .messages;
+      messages = r .messages;
       «letter_count» = letters;
-      letters = recordA .letters;
+      letters = r .letters;
     }
 
 -- in what the arrays hold
-unfoldable pub holding : List SecretRecord → List CommandRecord → List MessageRecord → List ℕ → JobRecord
-holding ss cs ms ls =
+unfoldable pub holding : JobRecord → List SecretRecord → List CommandRecord → List MessageRecord → List ℕ → JobRecord
+holding r ss cs ms ls =
     record {
-      form = recordA .form;
-      keys = recordA .keys;
-      «secret_count» = recordA .«secret_count»;
+      form = r .form;
+      keys = r .keys;
+      «secret_count» = r .«secret_count»;
       secrets = ss;
-      «command_count» = recordA .«command_count»;
+      «command_count» = r .«command_count»;
       commands = cs;
-      «message_count» = recordA .«message_count»;
+      «message_count» = r .«message_count»;
       messages = ms;
-      «letter_count» = recordA .«letter_count»;
+      «letter_count» = r .«letter_count»;
       letters = ls;
     }
 
 -- one secret, command, message or letter
-abbrev withSecret : ℕ → SecretRecord → JobRecord
-withSecret i s = holding (set (recordA .secrets) i s) (recordA .commands) (recordA .messages) (recordA .letters)
+abbrev withSecret : JobRecord → ℕ → SecretRecord → JobRecord
+withSecret r i s = holding r (set (r .secrets) i s) (r .commands) (r .messages) (r .letters)
 
-abbrev withCommand : ℕ → CommandRecord → JobRecord
-withCommand i c = holding (recordA .secrets) (set (recordA .commands) i c) (recordA .messages) (recordA .letters)
+abbrev withCommand : JobRecord → ℕ → CommandRecord → JobRecord
+withCommand r i c = holding r (r .secrets) (set (r .commands) i c) (r .messages) (r .letters)
 
-abbrev withMessage : ℕ → MessageRecord → JobRecord
-withMessage i m = holding (recordA .secrets) (recordA .commands) (set (recordA .messages) i m) (recordA .letters)
+abbrev withMessage : JobRecord → ℕ → MessageRecord → JobRecord
+withMessage r i m = holding r (r .secrets) (r .commands) (set (r .messages) i m) (r .letters)
 
-abbrev withLetter : ℕ → ℕ → JobRecord
-withLetter i b = holding (recordA .secrets) (recordA .commands) (recordA .messages) (set (recordA .letters) i b)
+abbrev withLetter : JobRecord → ℕ → ℕ → JobRecord
+withLetter r i b = holding r (r .secrets) (r .commands) (r .messages) (set (r .letters) i b)
 
 -- An example: a record, the bytes lent, and the number and the bytes that saving it answers
 pub record Example : Type 0 where
@@ -139,20 +161,44 @@ unfoldable pub list : List Example
 list =
     example recordA 113 0 113
     ∷ example recordA 112 55 0
-    ∷ example (counted 1 0 5 1 10) 0 54 0
-    ∷ example (counted 1 9 5 1 10) 0 54 0
-    ∷ example (counted 1 1 5 1 10) 0 54 0
-    ∷ example (counted 1 2 5 1 0) 0 54 0
-    ∷ example (counted 1 2 5 1 1025) 0 54 0
-    ∷ example (counted 1 2 0 1 10) 0 54 0
-    ∷ example (counted 1 2 5 33 10) 0 54 0
-    ∷ example (withLetter 9 65) 0 54 0
-    ∷ example (withLetter 10 65) 0 55 0
-    ∷ example (withCommand 4 (command 14 5 0 0)) 0 54 0
-    ∷ example (withCommand 5 (command 0 5 0 0)) 0 55 0
-    ∷ example (withSecret 0 (secret 1 (pos 300) 65)) 0 54 0
-    ∷ example (withMessage 0 (message 2 (entry 0 (pos 1500) ∷ entry 0 (pos 1480) ∷ replicate 14 (entry 0 (pos 0))))) 0 54 0
-    ∷ example (withCommand 4 (command 11 0 0 5)) 0 55 0
-    ∷ example (withCommand 4 (command 11 0 0 6)) 0 54 0
-    ∷ example (counted 2 2 5 1 10) 0 54 0
+    ∷ example (counted recordA 1 0 5 1 10) 0 54 0
+    ∷ example (counted recordA 1 9 5 1 10) 0 54 0
+    ∷ example (counted recordA 1 1 5 1 10) 0 54 0
+    ∷ example (counted recordA 1 2 5 1 0) 0 54 0
+    ∷ example (counted recordA 1 2 5 1 1025) 0 54 0
+    ∷ example (counted recordA 1 2 0 1 10) 0 54 0
+    ∷ example (counted recordA 1 2 5 33 10) 0 54 0
+    ∷ example (withLetter recordA 9 65) 0 54 0
+    ∷ example (withLetter recordA 10 65) 0 55 0
+    ∷ example (withCommand recordA 4 (command 14 5 0 0)) 0 54 0
+    ∷ example (withCommand recordA 5 (command 0 5 0 0)) 0 55 0
+    ∷ example (withSecret recordA 0 (secret 1 (pos 300) 65)) 0 54 0
+    ∷ example (withMessage recordA 0 (message 2 (entry 0 (pos 1500) ∷ entry 0 (pos 1480) ∷ replicate 14 (entry 0 (pos 0))))) 0 54 0
+    ∷ example (withCommand recordA 4 (command 11 0 0 5)) 0 55 0
+    ∷ example (withCommand recordA 4 (command 11 0 0 6)) 0 54 0
+    ∷ example (counted recordA 2 2 5 1 10) 0 54 0
+    ∷ []
+
+-- The same of the sheet of two owners: "each with its own letters and limits". Either owner of either key; none, and bytes beside theirs; an owner beyond the count;
+-- each letter, and that of the other form; the other form, and numbers that are none.
+unfoldable pub ofTwo : List Example
+ofTwo =
+    example recordTwo 167 0 167
+    ∷ example recordTwo 166 55 0
+    ∷ example (withSecret recordTwo 0 (secret 1 (pos 300) 66)) 0 55 0
+    ∷ example (withSecret recordTwo 1 (secret 2 (pos 400) 65)) 0 55 0
+    ∷ example (withSecret recordTwo 0 (secret 1 (pos 300) 0)) 0 54 0
+    ∷ example (withSecret recordTwo 0 (secret 1 (pos 300) 64)) 0 54 0
+    ∷ example (withSecret recordTwo 1 (secret 2 (pos 400) 67)) 0 54 0
+    ∷ example (withSecret recordTwo 0 (secret 1 (pos 300) 72)) 0 54 0
+    ∷ example (withSecret recordTwo 2 (secret 9 (pos 0) 9)) 0 55 0
+    ∷ example (withLetter recordTwo 20 65) 0 55 0
+    ∷ example (withLetter recordTwo 0 66) 0 55 0
+    ∷ example (withLetter recordTwo 20 76) 0 55 0
+    ∷ example (withLetter recordTwo 20 72) 0 54 0
+    ∷ example (withLetter recordTwo 21 72) 0 55 0
+    ∷ example (counted recordTwo 1 3 7 1 21) 0 54 0
+    ∷ example (counted recordTwo 0 3 7 1 21) 0 54 0
+    ∷ example (counted recordTwo 3 3 7 1 21) 0 54 0
+    ∷ example (counted recordTwo 2 9 7 1 21) 0 54 0
     ∷ []

@@ -1,17 +1,18 @@
 -- Document 02, Note 7: "The planner's screen holds a job as a record and must write it as a sheet." What a record says, which records pass, the job of a record,
 -- and the record of a job.
-use Prim.Native.Nat.{ℕ, _+_, _-_}
+use Prim.Native.Nat.{ℕ, suc, _+_, _-_}
 use mathlib.Core.List.{List, [], _∷_, map}
 use mathlib.Core.Bool.{Bool, true, false, cond, _&&_, _||_}
 use lib.{IntN.ℤ, Signed.mag, Dec.eqb, Dec.leb, Dec.ltb, ListN.length, ListN.take, ListN.set, ListN.replicate}
-use Rattle.model.specs.{Limits.formNumber, Limits.variables, Limits.greatestNumber, Text.between, Number.isZero, Command.table, Form.formOf, Accepted.rowAt}
-use Rattle.model.specs.{Accepted.placeOf, Accepted.has, Job.Job, Stored.levelOf, Placed.front}
-use Rattle.model.specs.declared.{Form.Form, Entry.Entry, Key.Key, Command.Command, Operand.Operand}
+use Rattle.model.specs.{Limits.forms, Turns.letterA, Turns.letterB, Limits.variables, Limits.greatestNumber, Text.between, Number.isZero, Command.table, Form.formOf}
+use Rattle.model.specs.{Accepted.rowAt, Accepted.placeOf, Accepted.has, Job.Job, Stored.levelOf, Placed.front}
+use Rattle.model.specs.declared.{Form.Form, Entry.Entry, Key.Key, Owner.Owner, Command.Command, Operand.Operand}
 use Rattle.model.specs.declared.Entry.the-variants.{Absent, Number}
 use Rattle.model.specs.declared.Key.the-variants.{Open, Secret}
+use Rattle.model.specs.declared.Owner.the-variants.{A, B}
 use Rattle.model.specs.declared.Operand.the-variants.{InV, InW, InK, InT, InN}
 use Rattle.model_text.specs.Text.{pairs}
-use Rattle.model_sheet.specs.Sheet.{dummyIn, letterOf, sheetText}
+use Rattle.model_sheet.specs.Sheet.{letterOf, sheetText}
 use Rattle.model_record.specs.Data.{SecretRecord, CommandRecord, EntryRecord, MessageRecord, JobRecord}
 
 -- ---- The places of a record: the constants of src/lib.rt
@@ -74,15 +75,20 @@ rising K next (k ∷ ks) = (leb next k && ltb k K) && rising K (k + 1) ks
 abbrev pub inRange : ℤ → Bool
 inRange z = leb (mag z) greatestNumber
 
--- A secret has no owner: only one form of sheets is written, in which there is none. "gives the same record": an owner would not come back, so its limit is 0.
+-- Note 8: "The writer of Note 7 takes both forms, each with its own letters and limits." Where owners are named, the byte of `A` or `B`; else none, 0: "gives the
+-- same record", and another owner would not come back.
+abbrev pub ownerFits : Bool → ℕ → Bool
+ownerFits false o = eqb o 0
+ownerFits true o = eqb o letterA || eqb o letterB
+
 abbrev pub secretKey : SecretRecord → ℕ
 secretKey s = s .key
 
-abbrev pub secretFits : SecretRecord → Bool
-secretFits s = eqb (s .owner) 0 && inRange (s .dummy)
+abbrev pub secretFits : Bool → SecretRecord → Bool
+secretFits two s = ownerFits two (s .owner) && inRange (s .dummy)
 
-unfoldable pub secretsFit : ℕ → List SecretRecord → Bool
-secretsFit K ss = rising K 0 (map secretKey ss) && all secretFits ss
+unfoldable pub secretsFit : Bool → ℕ → List SecretRecord → Bool
+secretsFit two K ss = rising K 0 (map secretKey ss) && all (secretFits two) ss
 
 -- the limit of an operand, where the word has these: of one that it lacks, which would not come back either, 0
 abbrev pub limitOf : List Operand → Operand → ℕ → ℕ
@@ -112,13 +118,13 @@ unfoldable pub messageFits : ℕ → MessageRecord → Bool
 messageFits K m = leb (m .«entry_count») K && entriesFit K (take (m .«entry_count») (m .entries))
 
 unfoldable pub letterFits : Form → ℕ → Bool
-letterFits f b = eqb b (f .low) || eqb b (f .high)
+letterFits f b = eqb b (f .low) || (eqb b (f .high) || (f .owners && eqb b letterB))
 
 -- the counts, before anything that they cover: none is above its places then
 unfoldable pub countsFit : JobRecord → Bool
 countsFit r =
     let f = formOf (r .form) in
-    eqb (r .form) formNumber
+    between 1 forms (r .form)
     && (between 1 (f .keys) (r .keys)
     && (leb (r .«secret_count») (r .keys)
     && (between 1 (f .commands) (r .«command_count»)
@@ -128,7 +134,7 @@ countsFit r =
 unfoldable pub passes : JobRecord → Bool
 passes r =
     countsFit r
-    && (secretsFit (r .keys) (take (r .«secret_count») (r .secrets))
+    && (secretsFit (formOf (r .form) .owners) (r .keys) (take (r .«secret_count») (r .secrets))
     && (all (commandFits (r .keys) (r .«command_count»)) (take (r .«command_count») (r .commands))
     && (all (messageFits (r .keys)) (take (r .«message_count») (r .messages))
     && all (letterFits (formOf (r .form))) (take (r .«letter_count») (r .letters)))))
@@ -140,15 +146,23 @@ unfoldable pub entersAll : {A : Type 0} → (ℤ → A) → List A → List (ℕ
 entersAll f xs [] = xs
 entersAll f xs (kv ∷ ps) = entersAll f (set xs (kv .0) (f (kv .1))) ps
 
-abbrev pub secretPair : SecretRecord → ℕ × ℤ
-secretPair s = (s .key, s .dummy)
+-- secrets at their keys
+abbrev pub ownerOf : ℕ → Owner
+ownerOf n = cond (eqb n letterB) B A
+
+abbrev pub keyOf : SecretRecord → Key
+keyOf s = Secret (ownerOf (s .owner)) (s .dummy)
+
+unfoldable pub hides : List Key → List SecretRecord → List Key
+hides xs [] = xs
+hides xs (s ∷ ss) = hides (set xs (s .key) (keyOf s)) ss
 
 abbrev pub entryPair : EntryRecord → ℕ × ℤ
 entryPair e = (e .key, e .value)
 
 -- the keys, the command and the entries that the numbers stand for
 unfoldable pub keysOf : ℕ → List SecretRecord → List Key
-keysOf K ss = entersAll Secret (replicate K Open) (map secretPair ss)
+keysOf K ss = hides (replicate K Open) ss
 
 unfoldable pub commandOf : CommandRecord → Command
 commandOf c = record { op = rowAt (c .word) .op; v = c .v; w = c .w; k = c .k; t = c .t; n = c .n }
@@ -159,6 +173,7 @@ entriesOf K m = entersAll Number (replicate K Absent) (map entryPair (take (m .�
 unfoldable pub jobIn : JobRecord → Job
 jobIn r =
     record {
+      form = r .form;
       keys = keysOf (r .keys) (take (r .«secret_count») (r .secrets));
       commands = map commandOf (take (r .«command_count») (r .commands));
       messages = map (entriesOf (r .keys)) (take (r .«message_count») (r .messages));
@@ -171,14 +186,25 @@ textOf r = sheetText (jobIn r)
 
 -- ---- The record of a job
 
-abbrev pub secretRecord : ℕ × ℤ → SecretRecord
-secretRecord kd = record { key = kd .0; dummy = kd .1; owner = 0 }
+abbrev pub ownerNumber : Bool → Owner → ℕ
+ownerNumber false o = 0
+ownerNumber true A = letterA
+ownerNumber true B = letterB
+
+abbrev pub secretRecord : Bool → ℕ → Owner → ℤ → SecretRecord
+secretRecord two k o d = record { key = k; dummy = d; owner = ownerNumber two o }
 
 abbrev pub entryRecord : ℕ × ℤ → EntryRecord
 entryRecord kv = record { key = kv .0; value = kv .1 }
 
-unfoldable pub secretRecords : List Key → List SecretRecord
-secretRecords ks = map secretRecord (pairs 0 (map dummyIn ks))
+-- of the secret keys from key k on
+unfoldable pub recordsFrom : Bool → ℕ → List Key → List SecretRecord
+recordsFrom two k [] = []
+recordsFrom two k (Open ∷ ks) = recordsFrom two (suc k) ks
+recordsFrom two k (Secret o d ∷ ks) = secretRecord two k o d ∷ recordsFrom two (suc k) ks
+
+abbrev pub secretRecords : Bool → List Key → List SecretRecord
+secretRecords two ks = recordsFrom two 0 ks
 
 unfoldable pub commandRecord : Command → CommandRecord
 commandRecord c = record { word = placeOf (c .op); v = c .v; w = c .w; k = c .k; t = c .t; n = c .n }
@@ -198,14 +224,14 @@ messagesOver (es ∷ ms) (r ∷ rs) = messageOver es r ∷ messagesOver ms rs
 unfoldable pub recordOver : Job → JobRecord → JobRecord
 recordOver j r =
     record {
-      form = formNumber;
+      form = j .form;
       keys = length (j .keys);
-      «secret_count» = length (secretRecords (j .keys));
-      secrets = front (r .secrets) (secretRecords (j .keys));
+      «secret_count» = length (secretRecords (formOf (j .form) .owners) (j .keys));
+      secrets = front (r .secrets) (secretRecords (formOf (j .form) .owners) (j .keys));
       «command_count» = length (j .commands);
       commands = front (r .commands) (map commandRecord (j .commands));
       «message_count» = length (j .messages);
       messages = messagesOver (j .messages) (r .messages);
       «letter_count» = length (j .turns);
-      letters = front (r .letters) (map letterOf (j .turns));
+      letters = front (r .letters) (map (letterOf (formOf (j .form))) (j .turns));
     }

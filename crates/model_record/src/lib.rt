@@ -11,7 +11,12 @@ pub const MESSAGE_PLACES: usize = 32;
 
 pub const LETTER_PLACES: usize = 1024;
 
-// A secret: its key, its dummy, and its owner.
+// An owner: the byte of its letter.
+pub const OWNER_A: u32 = 65;
+
+pub const OWNER_B: u32 = 66;
+
+// A secret: its key, its dummy, and its owner, which is 0 in the form that names none.
 #[repr(C)]
 pub struct SecretRecord {
     pub key: u32,

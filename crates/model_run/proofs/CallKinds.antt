@@ -11,13 +11,14 @@ use Rattle.model_run.specs.{Step.callOf, Process.Process, Process.step, 
 use Rattle.model_run.specs.{State.follows, State.role, State.leader, State.at, State.process, Verdict.kindAt, Verdict.waits, Verdict.idles, Run.share, Run.lead}
 use Rattle.model_run.specs.{Run.waitsAt, Run.unlessIdle, Run.followed, Run.following, Run.moved, Run.turnBy, Run.turn, Run.afterTurns, Run.lowFirst, Run.lowTurns}
 use Rattle.model_run.specs.{Run.stateAfter, Run.ended, Run.initial, Run.Rule, Run.runJobBy, Run.runJob, Whole.runSheet, Examples.AllHold}
-use Rattle.model_run.specs.Data.{Key, Set, Command, Call, Neither, Receives, Sends, Level, High, Execution}
-use Rattle.model_run.specs.CallKinds.{MovesOn, AlwaysMovesOn, OtherKind, callsIn, AlwaysKept, IdlesOn, AlwaysIdles, waitsBefore, followingBefore}
-use Rattle.model_run.specs.CallKinds.{OnlySecretColumns, OnlySecretColumnsOfSheets, sheetWith, MakersSheet, examples}
+use Rattle.model_run.specs.Data.{Key, Set, Command, Call, Neither, Receives, Sends, Level, Low, High, A, B, Execution}
+use Rattle.model_run.specs.Secrecy.{Whose, of, both}
+use Rattle.model_run.specs.CallKinds.{MovesOn, AlwaysMovesOn, OtherKind, callsIn, AlwaysKept, IdlesOn, AlwaysIdles, waitsBefore, followingBefore, only}
+use Rattle.model_run.specs.CallKinds.{OnlyTheirs, OnlySecretColumns, OnlySecretColumnsOfSheets, sheetWith, MakersSheet, examples}
 use Rattle.model_run.proofs.{Levels.Changed, Levels.same, Levels.other, Levels.changed, Levels.put-beside, Turn.callAt, Turn.calls, Turn.countAt, Turn.addedBy}
-use Rattle.model_run.proofs.{Turn.lowTurn, Turn.share-execution, Levels.low≢high, Levels.follower, Turn.turn-kinds, Turn.turn-count, Counted.run-of}
-use Rattle.model_run.proofs.{Counted.used-all, Counted.counts-of, Examples.opened, Lockstep.RulesAgree, Lockstep.run-alike, Lockstep.initial-alike}
-use Rattle.model_run.proofs.{Secrecy.rest-alike, Secrecy.indistinguishable}
+use Rattle.model_run.proofs.{Turn.lowTurn, Turn.share-execution, Levels.a≢b, Levels.leads-not-follows, Turn.turn-kinds, Turn.turn-count, Counted.run-of}
+use Rattle.model_run.proofs.{Counted.used-all, Counted.counts-of, Examples.opened, Lockstep.Theirs, Lockstep.RulesAgree, Lockstep.same-rule, Lockstep.run-alike}
+use Rattle.model_run.proofs.{Lockstep.initial-alike, Secrecy.rest-alike, Secrecy.indistinguishable}
 
 -- ---- The rule
 
@@ -215,21 +216,38 @@ always-idles j lent =
 
 -- ---- Against any other rule
 
--- the high execution is the only one that goes by a rule, and its columns are the secret ones
-rules-agree : (ks : List Key) (cs : List Command) (f g : Rule) → RulesAgree High low≢high ks cs f g
-rules-agree ks cs f g l r own s t h = absurd (own (follower l r))
+pub only-theirs : OnlyTheirs
+unfolding only
+only-theirs (of A) f cs A s = (λ h. refl, λ n. absurd (n refl))
+only-theirs (of A) f cs B s = (λ h. absurd (a≢b (ap High h)), λ n. refl)
+only-theirs (of B) f cs A s = (λ h. absurd (a≢b (ap High (sym h))), λ n. refl)
+only-theirs (of B) f cs B s = (λ h. refl, λ n. absurd (n refl))
+only-theirs both f cs w s = (λ h. refl, λ n. absurd (n tt))
+
+-- an execution other than theirs goes by this rule
+by-following : (o : Whose) (f : Rule) (cs : List Command) (l : Level) → role l ≡ follows → ¬ Theirs o l → (s : State) → only o f cs l s ≡ following cs l s
+unfolding only
+by-following o f cs Low r own s = absurd (leads-not-follows r)
+by-following (of A) f cs (High A) r own s = absurd (own refl)
+by-following (of A) f cs (High B) r own s = refl
+by-following (of B) f cs (High A) r own s = refl
+by-following (of B) f cs (High B) r own s = absurd (own refl)
+by-following both f cs (High o) r own s = absurd (own tt)
+
+rules-agree : (o : Whose) (ks : List Key) (cs : List Command) (f : Rule) → RulesAgree o ks cs following (only o f)
+rules-agree o ks cs f l r beside s t h = same-rule o ks cs l r beside s t h ∙ sym (by-following o f cs l r beside t)
 
 pub only-secret-columns : OnlySecretColumns
 unfolding runJobBy
-only-secret-columns f j m =
-    indistinguishable High (j .keys) m _ _ low≢high
-    (run-alike High low≢high (j .keys) (j .commands) following f (rules-agree (j .keys) (j .commands) following f) (length m) (j .turns) _ _
-    (initial-alike High low≢high (j .keys) (j .messages) (j .messages) (rest-alike High (j .keys) (j .messages) (j .messages) refl (λ n k isKey own. refl))))
+only-secret-columns o f j m =
+    indistinguishable o (j .keys) m _ _
+    (run-alike o (j .keys) (j .commands) following (only o f) (rules-agree o (j .keys) (j .commands) f) (length m) (j .turns) _ _
+    (initial-alike o (j .keys) (j .messages) (j .messages) (rest-alike o (j .keys) (j .messages) (j .messages) refl (λ n k isKey o′. refl))))
     (counts-of j (length m) .sent)
 
 pub only-secret-columns-of-sheets : OnlySecretColumnsOfSheets
 unfolding runSheet
-only-secret-columns-of-sheets f s j m e = rw e (only-secret-columns f j m)
+only-secret-columns-of-sheets o f s j m e = rw e (only-secret-columns o f j m)
 
 -- ---- The maker's sheet
 

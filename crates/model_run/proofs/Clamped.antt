@@ -9,10 +9,11 @@ use borrow.Author.Tests.{ltb-true, ltb-false, le-ltb}
 use native.Mathlib.{Omega.arith, Nat.div-le-self, Nat.div-one, Nat.div-mul-le-self, Nat.mul-le-mul, Nat.le-refl, Nat.le-trans}
 use Rattle.model.specs.{Limits.greatestNumber, Number.isZero}
 use Rattle.model_run.specs.{Arith.least, Arith.greatest, Arith.clamp, Arith.outside, Arith.clampsBy, Arith.computed, Arith.sum, Arith.difference, Arith.product}
-use Rattle.model_run.specs.{Arith.quotient, Arith.byZero, Step.effectBy, Secrecy.OwnedBy, Secrecy.Alike, Examples.AllHold, Examples.lentByRunsheet}
+use Rattle.model_run.specs.{Arith.quotient, Arith.byZero, Step.effectBy, Secrecy.of, Secrecy.OwnedBy, Secrecy.Alike, Examples.AllHold, Examples.lentByRunsheet}
 use Rattle.model_run.specs.Clamped.{Exact, exactly, none, exactOf, AlwaysSays, Clamps, AlwaysClamps, AtTheEnds, OneQuotient, doubling, doublingJob, HighUntold}
 use Rattle.model_run.specs.Clamped.{sums, examples}
 use Rattle.model_run.specs.Data.{Entry, Absent, Open, Op, Set, Add, Sub, Mul, Div, Read, Has, Put, Drop, IfNeg, IfZero, Jump, Receive, Send, Stop, Command, High}
+use Rattle.model_run.specs.Data.{A}
 use Rattle.model_run.proofs.{Turn.says, Turn.one-result, Examples.opened, Secrecy.sheet-secrecy}
 
 -- ---- What a command says and stores
@@ -169,10 +170,10 @@ one-quotient = record { does = refl; only = only }
 
 -- ---- The seven numbers
 
-alike : Alike High (doublingJob (pos 2147483647)) (doublingJob (pos 1))
+alike : Alike (of A) (doublingJob (pos 2147483647)) (doublingJob (pos 1))
 alike = record { keys = refl; commands = refl; turns = refl; count = refl; entries = go }
   where
-    go : (j k : ℕ) → k < 1 → ¬ OwnedBy High (getD (doublingJob (pos 1) .keys) k Open)
+    go : (j k : ℕ) → k < 1 → ¬ OwnedBy (of A) (getD (doublingJob (pos 1) .keys) k Open)
         → getD (getD (doublingJob (pos 2147483647) .messages) j []) k Absent ≡ getD (getD (doublingJob (pos 1) .messages) j []) k Absent
     go zero zero b own = absurd (own refl)
     go zero (suc k) b own = absurd (omega arith)
@@ -187,7 +188,7 @@ high-untold =
       alike = alike;
       great = refl;
       small = refl;
-      numbers = sheet-secrecy (doubling "2147483647") (doubling "1") (doublingJob (pos 2147483647)) (doublingJob (pos 1)) (replicate lentByRunsheet 0) refl refl alike .numbers;
+      numbers = sheet-secrecy (of A) (doubling "2147483647") (doubling "1") (doublingJob (pos 2147483647)) (doublingJob (pos 1)) (replicate lentByRunsheet 0) refl refl alike .numbers;
     }
 
 pub texts : AllHold examples

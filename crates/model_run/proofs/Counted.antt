@@ -10,19 +10,14 @@ use Rattle.model_run.specs.{Step.callOf, Process.Process, Process.step, 
 use Rattle.model_run.specs.{State.Incoming, State.State, State.fieldsOf, State.Role, State.leads, State.follows, State.role, State.leader, State.at, State.put}
 use Rattle.model_run.specs.{State.takenOf, State.takes, State.sends, State.stepsBy, State.process, State.noted, Run.Outcome, Run.share, Run.lead, Run.followed}
 use Rattle.model_run.specs.{Run.following, Run.moved, Run.turnBy, Run.turn, Run.afterTurns, Run.ended, Run.settle, Run.runBy, Run.run, Run.initial, Run.runJobBy}
-use Rattle.model_run.specs.{Run.runJob, Run.waitsAt, Run.lowFirst, Run.lowTurns, Run.lowTurnsOf, Message.receive, Message.columns, Message.lineNow, Message.send}
+use Rattle.model_run.specs.{Run.runJob, Run.waitsAt, Run.lowFirst, Run.lowTurns, Run.lowTurnsOf, Message.receive, Message.lineNow, Message.send}
 use Rattle.model_run.specs.{Line.lineLength, Verdict.short, Verdict.lacking, Verdict.noRoom, Verdict.verdictBy, Verdict.verdict, Verdict.idles, Counted.lowsBy}
 use Rattle.model_run.specs.{Counted.lows, Counted.Counted, Clamped.clampedIn}
 use Rattle.model.specs.{Job.Job}
-use Rattle.model_run.specs.Data.{Entry, Key, Command, Call, Neither, Receives, Sends, Level, Low, High, Ending, Stopped, LettersUsed, NoRoom, Clock}
+use Rattle.model_run.specs.Data.{Entry, Key, Command, Call, Neither, Receives, Sends, Level, Low, High, A, B, Ending, Stopped, LettersUsed, NoRoom, Clock}
 use Rattle.model.proofs.{Accepted.every-snoc}
 use Rattle.model_run.proofs.{Levels.Changed, Levels.same, Levels.other, Levels.changed, Turn.Counter, Turn.clamped, Turn.countAt, Turn.addedBy, Turn.turn-count}
-use Rattle.model_run.proofs.{Turn.share-execution, Turn.clock-kept, Turn.turn-clock, Line.Lined, Line.bytes-length}
-
-pub columns-length : (i : ℕ) (ks : List Key) (f : Level → List Entry) → length (columns i ks f) ≡ length ks
-unfolding columns
-columns-length i [] f = refl
-columns-length i (k ∷ ks) f = ap suc (columns-length (suc i) ks f)
+use Rattle.model_run.proofs.{Turn.share-execution, Turn.clock-kept, Turn.turn-clock, Line.Lined, Line.bytes-length, Message.columns-length}
 
 -- ---- What holds of a state on the way, with so many bytes lent, of all message lines
 
@@ -170,7 +165,8 @@ reached-first ks lent ms =
   where
     fresh-count : (q : Counter) (l : Level) → countAt q l (initial ks ms) ≤ 0
     fresh-count q Low = omega (arith, q .first)
-    fresh-count q High = omega (arith, q .first)
+    fresh-count q (High A) = omega (arith, q .first)
+    fresh-count q (High B) = omega (arith, q .first)
 
 -- ---- Whole runs
 

@@ -2,12 +2,14 @@
 -- real messages is.
 use Prim.Native.Nat.{ℕ, zero, suc, _+_, _*_, _-_, _<_, _≤_}
 use mathlib.Core.Path.{_≡_, refl, sym, _∙_, ap, ap₂, subst}
-use mathlib.Core.Bool.{Bool, true, false}
+use mathlib.Core.Logic.{_≢_}
+use mathlib.Core.Bool.{Bool, true, false, true≢false}
 use mathlib.Core.List.{List, [], _∷_, _++_, map, append-nil, append-assoc}
 use lib.{ListN.length, ListN.getD, ListN.drop, ListN.length-append, Seq.ext-getD, Seq.getD-append-add}
 use borrow.Author.Tests.{le-ltb}
 use native.Mathlib.{Omega.arith, Nat.add-zero, Nat.mul-add, Nat.mul-suc}
-use Rattle.model.specs.{Job.Job, Execution.kindsBy, Execution.callsBy, Placed.front, Answer.numbersOf}
+use Rattle.model.specs.{Form.formOf, Sheet.accepted, Sheet.readSheet, Accepted.Every, Accepted.KeyBy, Job.Job, Execution.kindsBy, Execution.callsBy, Placed.front}
+use Rattle.model.specs.{Answer.numbersOf}
 use Rattle.model_run.specs.{Step.callOf, Process.Process, Process.fresh, Process.refill, Process.step, Process.command, Process.stopped, Line.Sent}
 use Rattle.model_run.specs.{Line.lineLength, Line.bytesOf, Line.memoryAfter, State.State, State.Outgoing, State.fieldsOf, State.at, State.put, State.takenOf}
 use Rattle.model_run.specs.{State.takes, State.sends, State.process, State.noted, Message.shown, Message.fill, Message.received, Message.receive, Message.source}
@@ -17,11 +19,11 @@ use Rattle.model_run.specs.{Run.runJobBy, Whole.runSheet}
 use Rattle.model_run.specs.Plain.{PlainJob, PlainState, filled, nextFields, calling, callNow, callMade, plainStep, plainAt, callAtStep, entriesAtStep}
 use Rattle.model_run.specs.Honest.{timesLH, dummyAt, dummied, onReal, onDummies, Honest, lineOfStep, linesFrom, HoldsLines, HonestLosesNothing}
 use Rattle.model_run.specs.Honest.{HonestSheetLosesNothing, PairsWithin}
-use Rattle.model_run.specs.Data.{Entry, Absent, Number, Key, Open, Secret, Command, Call, Neither, Receives, Sends, Level, Low, High, Execution, Clock}
-use Rattle.model_run.specs.Data.{LettersUsed}
-use Rattle.model.proofs.{Accepted.accepted-sound}
-use Rattle.model_run.proofs.{Levels.at-each, Turn.calls, Turn.share-kinds, Turn.turn-clock, Counted.columns-length, Counted.counts-of, CallKinds.Counts}
-use Rattle.model_run.proofs.{CallKinds.rests, CallKinds.goes-on, CallKinds.turn-counts}
+use Rattle.model_run.specs.Data.{Entry, Absent, Number, Key, Open, Secret, Command, Call, Neither, Receives, Sends, Level, Low, High, Owner, A, B, Execution}
+use Rattle.model_run.specs.Data.{Clock, LettersUsed}
+use Rattle.model.proofs.{Accepted.accepted-sound, Accepted.every-at, Forms.every-form-fits}
+use Rattle.model_run.proofs.{Levels.low≢high, Levels.a≢b, Levels.at-each, Turn.calls, Turn.share-kinds, Turn.turn-clock, Message.columns-length, Message.columns-at}
+use Rattle.model_run.proofs.{Counted.counts-of, CallKinds.Counts, CallKinds.rests, CallKinds.goes-on, CallKinds.turn-counts}
 use Rattle.model_run.proofs.Plain.{stopped-of, command-of, calling-execution, now-stopped, now-going, movedOn, by-step, step-stopped, step-going, step-counts}
 use Rattle.model_run.proofs.Plain.{plain-length, sends-fields}
 
@@ -30,63 +32,65 @@ use Rattle.model_run.proofs.Plain.{plain-length, sends-fields}
 dummy-shown : (k : Key) (e : Entry) → dummyAt k e ≡ shown Low k e
 unfolding dummyAt shown
 dummy-shown Open e = refl
-dummy-shown (Secret d) Absent = refl
-dummy-shown (Secret d) (Number z) = refl
+dummy-shown (Secret o d) Absent = refl
+dummy-shown (Secret o d) (Number z) = refl
 
 -- the line of which a level is shown all: the low one, that with the dummies
 abbrev lineFor : Level → List Key → List Entry → List Entry
 lineFor Low ks es = dummied ks es
-lineFor High ks es = es
+lineFor (High o) ks es = es
 
-first-shown : (l : Level) (k : Key) (ks : List Key) (es : List Entry) → getD (lineFor l (k ∷ ks) es) 0 Absent ≡ shown l k (getD es 0 Absent)
+first-shown : (l : Level) → l ≢ High B → (k : Key) → KeyBy false k → (ks : List Key) (es : List Entry) → getD (lineFor l (k ∷ ks) es) 0 Absent ≡ shown l k (getD es 0 Absent)
 unfolding dummied shown
-first-shown Low k ks es = dummy-shown k (getD es 0 Absent)
-first-shown High Open ks es = refl
-first-shown High (Secret d) ks es = refl
+first-shown Low n k one ks es = dummy-shown k (getD es 0 Absent)
+first-shown (High A) n Open one ks es = refl
+first-shown (High A) n (Secret A d) one ks es = refl
+first-shown (High A) n (Secret B d) one ks es = absurd (true≢false (sym one))
+first-shown (High B) n k one ks es = absurd (n refl)
 
 rest-shown : (l : Level) (k : Key) (ks : List Key) (es : List Entry) → drop 1 (lineFor l (k ∷ ks) es) ≡ lineFor l ks (drop 1 es)
 unfolding dummied
 rest-shown Low k ks es = refl
-rest-shown High k ks es = refl
+rest-shown (High o) k ks es = refl
 
-filled-shown : (l : Level) (ks : List Key) (es : List Entry) → filled (length ks) (lineFor l ks es) ≡ fill l ks es
+filled-shown : (l : Level) → l ≢ High B → (ks : List Key) → Every (KeyBy false) ks → (es : List Entry) → filled (length ks) (lineFor l ks es) ≡ fill l ks es
 unfolding filled fill
-filled-shown l [] es = refl
-filled-shown l (k ∷ ks) es = ap₂ _∷_ (first-shown l k ks es) (ap (filled (length ks)) (rest-shown l k ks es) ∙ filled-shown l ks (drop 1 es))
+filled-shown l n [] one es = refl
+filled-shown l n (k ∷ ks) one es = ap₂ _∷_ (first-shown l n k (one .0) ks es) (ap (filled (length ks)) (rest-shown l k ks es) ∙ filled-shown l n ks (one .1) (drop 1 es))
 
 module _ (ks : List Key) where
   -- and all lines that are left
   abbrev seen : Level → List (List Entry) → List (List Entry)
   seen Low ms = map (dummied ks) ms
-  seen High ms = ms
+  seen (High o) ms = ms
 
-  next-shown : (l : Level) (ms : List (List Entry)) → nextFields (length ks) (seen l ms) ≡ received ks ms l
+  next-shown : Every (KeyBy false) ks → (l : Level) → l ≢ High B → (ms : List (List Entry)) → nextFields (length ks) (seen l ms) ≡ received ks ms l
   unfolding nextFields received
-  next-shown Low [] = refl
-  next-shown Low (m ∷ ms) = filled-shown Low ks m
-  next-shown High [] = refl
-  next-shown High (m ∷ ms) = filled-shown High ks m
+  next-shown one Low n [] = refl
+  next-shown one Low n (m ∷ ms) = filled-shown Low n ks one m
+  next-shown one (High o) n [] = refl
+  next-shown one (High o) n (m ∷ ms) = filled-shown (High o) n ks one m
 
   rest-seen : (l : Level) (ms : List (List Entry)) (n : ℕ) → drop 1 (seen l ms) ≡ seen l (takenOf ms n .rest)
   rest-seen Low [] n = refl
   rest-seen Low (m ∷ ms) n = refl
-  rest-seen High [] n = refl
-  rest-seen High (m ∷ ms) n = refl
+  rest-seen (High o) [] n = refl
+  rest-seen (High o) (m ∷ ms) n = refl
 
   -- a level's execution in a state of the paired run, as one that works alone
   abbrev alone : Level → State → PlainState
   alone l s = record { process = process l s; rest = seen l (s .incoming .rest) }
 
   -- what a call of the leader does to the message is, at each level, what a call of its own does to that of a plain run
-  share-alone : (k : Call) (l : Level) (s : State) → calling k (length ks) (alone l s) ≡ alone l (share k ks s)
+  share-alone : Every (KeyBy false) ks → (k : Call) (l : Level) → l ≢ High B → (s : State) → calling k (length ks) (alone l s) ≡ alone l (share k ks s)
   unfolding calling share receive send noted takes
-  share-alone Neither l s = refl
-  share-alone Receives l s =
+  share-alone one Neither l n s = refl
+  share-alone one Receives l n s =
       let ms = s .incoming .rest in
       let rest = seen l (takes (s .incoming) .rest) in
-      ap₂ (λ (es : List Entry) (ls : List (List Entry)). record { process = refill es (process l s); rest = ls }) (next-shown l ms) (rest-seen l ms (s .incoming .taken))
+      ap₂ (λ (es : List Entry) (ls : List (List Entry)). record { process = refill es (process l s); rest = ls }) (next-shown one l n ms) (rest-seen l ms (s .incoming .taken))
       ∙ ap (λ (p : Process). record { process = p; rest = rest }) (sym (at-each (λ m. refill (received ks ms m)) l (s .processes)))
-  share-alone Sends l s = refl
+  share-alone one Sends l n s = refl
 
 -- ---- An execution that follows, once the leader has made the call that it makes itself
 
@@ -128,7 +132,7 @@ last-kind k kinds = ap (kindAt (kinds ++ kindsBy k)) (sym (add-zero (length kind
 
 -- ---- A pair of turns
 
-module _ (ks : List Key) (cs : List Command) (s : State) where
+module _ (ks : List Key) (single : Every (KeyBy false) ks) (cs : List Command) (s : State) where
   -- the low call
   abbrev kind : Call
   kind = callOf (command cs (process Low s) .op)
@@ -138,28 +142,28 @@ module _ (ks : List Key) (cs : List Command) (s : State) where
   half = turn ks cs Low s
 
   abbrev whole : State
-  whole = turn ks cs High half
+  whole = turn ks cs (High A) half
 
   low-step : stopped cs (process Low s) ≡ false → plainStep (length ks) cs (alone ks Low s) ≡ alone ks Low half
   unfolding turnBy lead at put
   low-step e =
       step-going (length ks) cs (alone ks Low s) e
       ∙ ap (λ (b : PlainState). record { process = step (length cs) (command cs (process Low s)) (b .process); rest = b .rest })
-      (ap (λ (k : Call). calling k (length ks) (alone ks Low s)) (now-going (length ks) cs (alone ks Low s) e) ∙ share-alone ks kind Low s)
+      (ap (λ (k : Call). calling k (length ks) (alone ks Low s)) (now-going (length ks) cs (alone ks Low s) e) ∙ share-alone ks single kind Low (low≢high B) s)
 
-  module _ (same : callNow cs (alone ks High s) ≡ kind) (even : process High s .execution .calls ≡ length (s .kinds)) where
-    high-called : callMade (length ks) cs (alone ks High s) ≡ alone ks High half
+  module _ (same : callNow cs (alone ks (High A) s) ≡ kind) (even : process (High A) s .execution .calls ≡ length (s .kinds)) where
+    high-called : callMade (length ks) cs (alone ks (High A) s) ≡ alone ks (High A) half
     unfolding turnBy lead at put
-    high-called = ap (λ (k : Call). calling k (length ks) (alone ks High s)) same ∙ share-alone ks kind High s
+    high-called = ap (λ (k : Call). calling k (length ks) (alone ks (High A) s)) same ∙ share-alone ks single kind (High A) a≢b s
 
-    agreed : kindAt (half .kinds) (process High s .execution .calls) ≡ callNow cs (alone ks High s)
+    agreed : kindAt (half .kinds) (process (High A) s .execution .calls) ≡ callNow cs (alone ks (High A) s)
     unfolding turnBy lead
     agreed = ap₂ kindAt (share-kinds ks s kind) even ∙ last-kind kind (s .kinds) ∙ sym same
 
-    high-step : plainStep (length ks) cs (alone ks High s) ≡ alone ks High whole
+    high-step : plainStep (length ks) cs (alone ks (High A) s) ≡ alone ks (High A) whole
     unfolding turnBy at put
     high-step =
-        sym (follower-step (length ks) cs (half .kinds) (alone ks High s) agreed)
+        sym (follower-step (length ks) cs (half .kinds) (alone ks (High A) s) agreed)
         ∙ ap (λ (b : PlainState). record { process = followed cs (half .kinds) (b .process); rest = b .rest }) high-called
 
   -- the high turn leaves the low execution and the output
@@ -173,23 +177,18 @@ module _ (ks : List Key) (cs : List Command) (s : State) where
 
 -- ---- The line of a send
 
-columns-at : (i : ℕ) (ks : List Key) (f : Level → List Entry) (k : ℕ) → k < length ks → getD (columns i ks f) k Absent ≡ getD (f (source (getD ks k Open))) (i + k) Absent
-unfolding columns
-columns-at i [] f k h = absurd (omega arith)
-columns-at i (x ∷ ks) f zero h = ap (λ (n : ℕ). getD (f (source x)) n Absent) (sym (add-zero i))
-columns-at i (x ∷ ks) f (suc k) h = columns-at (suc i) ks f k (omega arith) ∙ ap (λ (n : ℕ). getD (f (source (getD ks k Open))) n Absent) (omega arith)
-
 -- where the open fields of both levels are equal, its columns are the high fields
-columns-high : (ks : List Key) (f : Level → List Entry) → length (f High) ≡ length ks
-    → ((k : ℕ) → k < length ks → getD ks k Open ≡ Open → getD (f High) k Absent ≡ getD (f Low) k Absent) → columns 0 ks f ≡ f High
+columns-high : (ks : List Key) → Every (KeyBy false) ks → (f : Level → List Entry) → length (f (High A)) ≡ length ks
+    → ((k : ℕ) → k < length ks → getD ks k Open ≡ Open → getD (f (High A)) k Absent ≡ getD (f Low) k Absent) → columns 0 ks f ≡ f (High A)
 unfolding source
-columns-high ks f wide opens = ext-getD Absent (columns 0 ks f) (f High) (columns-length 0 ks f ∙ sym wide) (λ k below. column k (omega (arith, columns-length 0 ks f)))
+columns-high ks single f wide opens = ext-getD Absent (columns 0 ks f) (f (High A)) (columns-length 0 ks f ∙ sym wide) (λ k below. column k (omega (arith, columns-length 0 ks f)))
   where
-    by-key : (k : ℕ) → k < length ks → (x : Key) → getD ks k Open ≡ x → getD (f (source x)) k Absent ≡ getD (f High) k Absent
+    by-key : (k : ℕ) → k < length ks → (x : Key) → getD ks k Open ≡ x → getD (f (source x)) k Absent ≡ getD (f (High A)) k Absent
     by-key k below Open e = sym (opens k below e)
-    by-key k below (Secret d) e = refl
+    by-key k below (Secret A d) e = refl
+    by-key k below (Secret B d) e = absurd (true≢false (sym (subst (KeyBy false) e (every-at (KeyBy false) ks k Open single below))))
 
-    column : (k : ℕ) → k < length ks → getD (columns 0 ks f) k Absent ≡ getD (f High) k Absent
+    column : (k : ℕ) → k < length ks → getD (columns 0 ks f) k Absent ≡ getD (f (High A)) k Absent
     column k below = columns-at 0 ks f k below ∙ ap (λ (n : ℕ). getD (f (source (getD ks k Open))) n Absent) (omega arith) ∙ by-key k below (getD ks k Open) refl
 
 module _ (ks : List Key) (s : State) (m : ℕ) (es : List Entry) where
@@ -237,7 +236,7 @@ module _ (ks : List Key) (cs : List Command) (lent : ℕ) (s : State) where
 
 -- ---- The induction over the pairs of turns
 
-module _ (j : Job) (N lent : ℕ) (honest : Honest j N) where
+module _ (j : Job) (single : Every (KeyBy false) (j .keys)) (N lent : ℕ) (honest : Honest j N) where
   abbrev ks : List Key
   ks = j .keys
 
@@ -271,7 +270,7 @@ module _ (j : Job) (N lent : ℕ) (honest : Honest j N) where
 
   -- The paired run after m pairs of turns, with n to come
   record After (m n : ℕ) (s : State) : Type 0 where
-    high : plainAt real m ≡ alone ks High s
+    high : plainAt real m ≡ alone ks (High A) s
     low : plainAt dummies m ≡ alone ks Low s
     kinds : Counts ks cs s
     positions : s .clock .positions ≡ 2 * m
@@ -279,17 +278,17 @@ module _ (j : Job) (N lent : ℕ) (honest : Honest j N) where
 
   module _ (n m : ℕ) (s : State) (e : N ≡ m + suc n) (h : After m (suc n) s) (going : stopped cs (process Low s) ≡ false) where
     abbrev low-call : Call
-    low-call = kind ks cs s
+    low-call = kind ks single cs s
 
     real-calls : callAtStep real m ≡ low-call
     unfolding callAtStep
     real-calls = honest .calls m (omega arith) ∙ ap (callNow cs) (h .low) ∙ now-going (length ks) cs (alone ks Low s) going
 
-    high-calls : callNow cs (alone ks High s) ≡ low-call
+    high-calls : callNow cs (alone ks (High A) s) ≡ low-call
     unfolding callAtStep
     high-calls = ap (callNow cs) (sym (h .high)) ∙ real-calls
 
-    even : process High s .execution .calls ≡ length (s .kinds)
+    even : process (High A) s .execution .calls ≡ length (s .kinds)
     unfolding at calls
     even =
         let count : PlainState → ℕ = λ a. a .process .execution .calls in
@@ -309,7 +308,7 @@ module _ (j : Job) (N lent : ℕ) (honest : Honest j N) where
         let fields : PlainState → List Entry = λ a. a .process .fields in
         let here = sends-fields real m (real-calls ∙ c) in
         let there = sends-fields dummies m (sym (honest .calls m (omega arith)) ∙ real-calls ∙ c) in
-        columns-high ks (fieldsOf s) (ap (λ (a : PlainState). length (fields a)) (sym (h .high)) ∙ plain-length real m)
+        columns-high ks single (fieldsOf s) (ap (λ (a : PlainState). length (fields a)) (sym (h .high)) ∙ plain-length real m)
         (λ k isKey isOpen.
         ap (λ (es : List Entry). getD es k Absent) (ap fields (sym (h .high)) ∙ sym here)
         ∙ honest .entries m (omega arith) (real-calls ∙ c) k isKey isOpen
@@ -317,42 +316,42 @@ module _ (j : Job) (N lent : ℕ) (honest : Honest j N) where
         ∙ ap fields (sym (h .high))
         ∙ sym here
 
-    half-outgoing : half ks cs s .outgoing ≡ withLine ks s m (entriesAtStep real m) low-call
+    half-outgoing : half ks single cs s .outgoing ≡ withLine ks s m (entriesAtStep real m) low-call
     unfolding turnBy lead
     half-outgoing = share-line ks s m (entriesAtStep real m) low-call (h .positions) columns-real
 
-    half-sent : half ks cs s .outgoing .sent ≡ s .outgoing .sent ++ line
+    half-sent : half ks single cs s .outgoing .sent ≡ s .outgoing .sent ++ line
     half-sent = ap (λ (o : Outgoing). o .sent) half-outgoing
 
-    half-low : plainAt dummies (suc m) ≡ alone ks Low (half ks cs s)
+    half-low : plainAt dummies (suc m) ≡ alone ks Low (half ks single cs s)
     unfolding plainAt
-    half-low = ap (plainStep (length ks) cs) (h .low) ∙ low-step ks cs s going
+    half-low = ap (plainStep (length ks) cs) (h .low) ∙ low-step ks single cs s going
 
     has-room : short low-call (lent - s .outgoing .bytes) (lineLength ks) ≡ false
     has-room =
         room-for ks s m (entriesAtStep real m) low-call lent (linesFrom real (suc m) n)
         (subst (λ (ls : List Sent). s .outgoing .bytes + lineLength ks * length ls ≤ lent) lines-split (h .room))
 
-    clock-after : whole ks cs s .clock .positions ≡ 2 * suc m
+    clock-after : whole ks single cs s .clock .positions ≡ 2 * suc m
     clock-after =
-        let second = ap (λ (c : Clock). c .positions) (turn-clock ks cs (half ks cs s) High) in
+        let second = ap (λ (c : Clock). c .positions) (turn-clock ks cs (half ks single cs s) (High A)) in
         let first = ap (λ (c : Clock). c .positions) (turn-clock ks cs s Low) in
         omega (arith, first, second, h .positions)
 
-    room-after : whole ks cs s .outgoing .bytes + lineLength ks * length (linesFrom real (suc m) n) ≤ lent
+    room-after : whole ks single cs s .outgoing .bytes + lineLength ks * length (linesFrom real (suc m) n) ≤ lent
     room-after =
         let later = linesFrom real (suc m) n in
         let both = ap length lines-split ∙ length-append line later in
         let split = ap (λ (i : ℕ). lineLength ks * i) both ∙ mul-add (lineLength ks) (length line) (length later) in
-        omega (arith, h .room, split, ap (λ (o : Outgoing). o .bytes) (output-still ks cs s ∙ half-outgoing))
+        omega (arith, h .room, split, ap (λ (o : Outgoing). o .bytes) (output-still ks single cs s ∙ half-outgoing))
 
-    next : After (suc m) n (whole ks cs s)
+    next : After (suc m) n (whole ks single cs s)
     unfolding plainAt
     next =
         record {
-          high = ap (plainStep (length ks) cs) (h .high) ∙ high-step ks cs s high-calls even;
-          low = half-low ∙ sym (low-still ks cs s);
-          kinds = turn-counts ks cs High (half ks cs s) (turn-counts ks cs Low s (h .kinds));
+          high = ap (plainStep (length ks) cs) (h .high) ∙ high-step ks single cs s high-calls even;
+          low = half-low ∙ sym (low-still ks single cs s);
+          kinds = turn-counts ks cs (High A) (half ks single cs s) (turn-counts ks cs Low s (h .kinds));
           positions = clock-after;
           room = room-after;
         }
@@ -367,39 +366,39 @@ module _ (j : Job) (N lent : ℕ) (honest : Honest j N) where
   module _ (n m : ℕ) (s : State) (e : N ≡ m + suc n) (h : After m (suc n) s) where
     -- what is to be shown of the pairs that come after this one
     abbrev Later : Type 0
-    Later = After (suc m) n (whole ks cs s) → Sending (suc m) n (whole ks cs s) (run ks cs lent (whole ks cs s) (timesLH n))
+    Later = After (suc m) n (whole ks single cs s) → Sending (suc m) n (whole ks single cs s) (run ks cs lent (whole ks single cs s) (timesLH n))
 
     module _ (going : stopped cs (process Low s) ≡ false) where
       -- the low turn's line stands before what is sent later
-      joined : half ks cs s .outgoing .sent ++ linesFrom real (suc m) n ≡ s .outgoing .sent ++ linesFrom real m (suc n)
+      joined : half ks single cs s .outgoing .sent ++ linesFrom real (suc m) n ≡ s .outgoing .sent ++ linesFrom real m (suc n)
       joined =
           ap (λ (ls : List Sent). ls ++ linesFrom real (suc m) n) (half-sent n m s e h going)
           ∙ append-assoc (s .outgoing .sent) (line n m s e h going) (linesFrom real (suc m) n)
           ∙ ap (λ (ls : List Sent). s .outgoing .sent ++ ls) (sym (lines-split n m s e h going))
 
-      from-half : Later → (b : Bool) → stopped cs (process Low (half ks cs s)) ≡ b → Sending m (suc n) s (run ks cs lent (half ks cs s) (High ∷ timesLH n))
+      from-half : Later → (b : Bool) → stopped cs (process Low (half ks single cs s)) ≡ b → Sending m (suc n) s (run ks cs lent (half ks single cs s) ((High A) ∷ timesLH n))
       unfolding noRoom
       from-half later true d =
-          run-stopped ks cs lent (half ks cs s) (High ∷ timesLH n) d
-          ∙ nothing-more n (suc m) (half ks cs s .outgoing .sent) (omega arith) (ap (λ (a : PlainState). stopped cs (a .process)) (half-low n m s e h going) ∙ d)
+          run-stopped ks cs lent (half ks single cs s) ((High A) ∷ timesLH n) d
+          ∙ nothing-more n (suc m) (half ks single cs s .outgoing .sent) (omega arith) (ap (λ (a : PlainState). stopped cs (a .process)) (half-low n m s e h going) ∙ d)
           ∙ joined
       from-half later false d =
-          run-on ks cs lent (half ks cs s) High (timesLH n) d refl
+          run-on ks cs lent (half ks single cs s) (High A) (timesLH n) d refl
           ∙ later (next n m s e h going)
-          ∙ ap (λ (o : Outgoing). o .sent ++ linesFrom real (suc m) n) (output-still ks cs s)
+          ∙ ap (λ (o : Outgoing). o .sent ++ linesFrom real (suc m) n) (output-still ks single cs s)
           ∙ joined
 
-    from-pair : Later → (b : Bool) → stopped cs (process Low s) ≡ b → Sending m (suc n) s (run ks cs lent s (Low ∷ High ∷ timesLH n))
+    from-pair : Later → (b : Bool) → stopped cs (process Low s) ≡ b → Sending m (suc n) s (run ks cs lent s (Low ∷ (High A) ∷ timesLH n))
     unfolding noRoom
     from-pair later true d =
-        run-stopped ks cs lent s (Low ∷ High ∷ timesLH n) d ∙ nothing-more (suc n) m (s .outgoing .sent) e (ap (λ (a : PlainState). stopped cs (a .process)) (h .low) ∙ d)
+        run-stopped ks cs lent s (Low ∷ (High A) ∷ timesLH n) d ∙ nothing-more (suc n) m (s .outgoing .sent) e (ap (λ (a : PlainState). stopped cs (a .process)) (h .low) ∙ d)
     from-pair later false d =
-        run-on ks cs lent s Low (High ∷ timesLH n) d (has-room n m s e h d) ∙ from-half d later (stopped cs (process Low (half ks cs s))) refl
+        run-on ks cs lent s Low ((High A) ∷ timesLH n) d (has-room n m s e h d) ∙ from-half d later (stopped cs (process Low (half ks single cs s))) refl
 
   sending : (n m : ℕ) (s : State) → N ≡ m + n → After m n s → Sending m n s (run ks cs lent s (timesLH n))
   unfolding timesLH linesFrom
   sending zero m s e h = run-used ks cs lent s ∙ sym (append-nil (s .outgoing .sent))
-  sending (suc n) m s e h = from-pair n m s e h (sending n (suc m) (whole ks cs s) (omega arith)) (stopped cs (process Low s)) refl
+  sending (suc n) m s e h = from-pair n m s e h (sending n (suc m) (whole ks single cs s) (omega arith)) (stopped cs (process Low s)) refl
 
   at-first : HoldsLines j N lent → After 0 N (initial ks (j .messages))
   unfolding plainAt initial fresh at calls
@@ -407,14 +406,19 @@ module _ (j : Job) (N lent : ℕ) (honest : Honest j N) where
 
 pub honest-loses-nothing : HonestLosesNothing
 unfolding runJobBy initial
-honest-loses-nothing j N lent turns honest room =
+honest-loses-nothing j N lent single turns honest room =
     ap (λ (ls : List Level). run (j .keys) (j .commands) lent (initial (j .keys) (j .messages)) ls .lines) turns
-    ∙ sending j N lent honest N 0 (initial (j .keys) (j .messages)) (omega arith) (at-first j N lent honest room)
+    ∙ sending j single N lent honest N 0 (initial (j .keys) (j .messages)) (omega arith) (at-first j single N lent honest room)
+
+-- a sheet of the first form has one owner
+single-owner : (t : List ℕ) (j : Job) → readSheet t ≡ accepted j → j .form ≡ 1 → Every (KeyBy false) (j .keys)
+unfolding formOf
+single-owner t j read e = subst (λ (n : ℕ). Every (KeyBy (formOf n .owners)) (j .keys)) e (accepted-sound t j read .owners)
 
 pub honest-sheet-loses-nothing : HonestSheetLosesNothing
 unfolding runSheet numbersOf memoryAfter front
-honest-sheet-loses-nothing t j N m read turns honest room =
-    let same = honest-loses-nothing j N (length m) turns honest room in
+honest-sheet-loses-nothing t j N m read form turns honest room =
+    let same = honest-loses-nothing j N (length m) (single-owner t j read form) turns honest room in
     rw read
     (record {
       written = sym (counts-of j (length m) .sent) ∙ ap (λ (ls : List Sent). length (bytesOf ls)) same;
@@ -430,4 +434,4 @@ pub pairs-within : PairsWithin
 pairs-within t j N read turns =
     let sound = accepted-sound t j read in
     let letters : length (j .turns) ≡ 2 * N = ap length turns ∙ pairs-length N in
-    (omega (arith, sound .someTurns), omega (arith, sound .mostTurns))
+    (omega (arith, sound .someTurns), omega (arith, sound .mostTurns, every-form-fits (j .form) .letters))

@@ -11,7 +11,7 @@ use Rattle.model_run.specs.Plain.{PlainJob, filled, nextFields, calling,
 use Rattle.model_run.specs.Honest.{timesLH, dummyAt, dummied, onReal, onDummies, Honest, linesFrom}
 use Rattle.model_run.specs.HonestExamples.{stepsFrom, callsOf, Comparison, compared, Case, job, Shown, Spoilt, callsHonest, doubles, HonestExample, eitherKind}
 use Rattle.model_run.specs.HonestExamples.{orderOnly, OrderBefore, sendsOnly, callsOnly, AllSpoilt}
-use Rattle.model_run.specs.Data.{Entry, Absent, Number, Key, Open, Secret, Call, Neither, Receives, Sends}
+use Rattle.model_run.specs.Data.{Entry, Absent, Number, Key, Open, Secret, A, Call, Neither, Receives, Sends}
 use Rattle.model_run.proofs.{Examples.opened, Honest.honest-loses-nothing}
 
 -- opens what the plain runs go through
@@ -34,14 +34,14 @@ each-step f g d N e s h = ap f (omega arith) ∙ sym (step-at f d 0 N s h) ∙ a
 -- 1 for a secret key, so that it is not open
 abbrev secretly : Key → ℕ
 secretly Open = 0
-secretly (Secret d) = 1
+secretly (Secret o d) = 1
 
 -- the entry at key 0, at a step
 abbrev openAt : PlainJob → ℕ → Entry
 openAt j s = getD (entriesAtStep j s) 0 Absent
 
 -- A program with key 0 open and key 1 secret is honest for N steps, if both plain runs make these calls and have these open entries
-honest-if : (j : Job) (N : ℕ) (d : ℤ) (calls : List Call) (opens : List Entry) → j .keys ≡ Open ∷ Secret d ∷ []
+honest-if : (j : Job) (N : ℕ) (d : ℤ) (calls : List Call) (opens : List Entry) → j .keys ≡ Open ∷ Secret A d ∷ []
     → callsOf (onReal j) N ≡ calls → callsOf (onDummies j) N ≡ calls
     → stepsFrom (openAt (onReal j)) 0 N ≡ opens → stepsFrom (openAt (onDummies j)) 0 N ≡ opens
     → Honest j N
@@ -83,7 +83,7 @@ honest-example =
     record {
       shown = shown-honest;
       honest = honest;
-      same = honest-loses-nothing (job doubles) 12 lentByRunsheet refl honest (shown-honest .room);
+      same = honest-loses-nothing (job doubles) 12 lentByRunsheet (tt, (tt, tt)) refl honest (shown-honest .room);
       first = λ e. omega (arith, ap amount e);
       second = λ e. omega (arith, ap amount e);
       enough = omega arith;

@@ -1,6 +1,7 @@
 -- The proofs about the run.
 pub mod Examples
 pub mod Levels
+pub mod Message
 pub mod Turn
 pub mod Counted
 pub mod Lockstep
@@ -10,5 +11,6 @@ pub mod Witness
 pub mod CallKinds
 pub mod Clamped
 pub mod Plain
+pub mod Owners
 pub mod Honest
 pub mod HonestExamples

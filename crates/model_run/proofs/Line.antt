@@ -7,8 +7,9 @@ use lib.{ListN.length, ListN.getD, ListN.length-append, ListN.List·getD-append,
 use native.Mathlib.{Omega.arith, Nat.mod-eq-of-lt, Nat.add-mod-left, Decide.decLt}
 use Rattle.model.specs.{Text.bytes, Text.lineFeed, Accepted.Every}
 use Rattle.model_run.specs.{Line.Sent, Message.source, Line.cell, Line.cells, Line.heading, Line.lineBytes, Line.lineLength, Line.bytesOf}
-use Rattle.model_run.specs.Data.{Entry, Absent, Number, Key, Open, Level}
-use Rattle.model_run.proofs.Lockstep.{Agree, done, next, LinesAgree, SentLike, none, more}
+use Rattle.model_run.specs.Data.{Entry, Absent, Number, Key, Open}
+use Rattle.model_run.specs.Secrecy.{Whose}
+use Rattle.model_run.proofs.Lockstep.{Theirs, Agree, done, next, LinesAgree, SentLike, none, more}
 use Rattle.model.proofs.Decimal.{digits-length}
 
 -- ---- Lengths
@@ -69,10 +70,10 @@ split x x′ y y′ n ex ex′ q front back = ⊎-elim near far (below-or q n)
 
 -- ---- Columns and lines
 
-module _ (o : Level) where
+module _ (o : Whose) where
   -- place q lies in no column that o owns, where the first column begins at place c
   abbrev pub Clear : List Key → ℕ → ℕ → Type 0
-  Clear ks c q = (k : ℕ) → k < length ks → source (getD ks k Open) ≡ o → c + 12 * k ≤ q → q ≤ c + 10 + 12 * k → ⊥
+  Clear ks c q = (k : ℕ) → k < length ks → Theirs o (source (getD ks k Open)) → c + 12 * k ≤ q → q ≤ c + 10 + 12 * k → ⊥
 
   counts : {ks : List Key} {es fs : List Entry} → Agree o ks es fs → (length es ≡ length ks) × (length fs ≡ length ks)
   counts done = (refl, refl)

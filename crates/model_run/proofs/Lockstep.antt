@@ -1,4 +1,4 @@
--- Two runs in lockstep: what all but one source see stays equal, turn by turn, to the end.
+-- Two runs in lockstep: what all but the owners in question see stays equal, turn by turn, to the end.
 use Prim.Native.Nat.{ℕ, suc, _+_, _-_, _<_, zero-le, suc-le-suc}
 use mathlib.Core.Path.{_≡_, refl, sym, _∙_, ap, ap₂, subst}
 use mathlib.Core.Logic.{_≢_}
@@ -12,95 +12,110 @@ use Rattle.model_run.specs.{Run.followed, Run.Rule, Run.following, Run.m
 use Rattle.model_run.specs.{Message.source, Message.fill, Message.received, Message.receive, Message.columns, Message.lineNow, Message.send, Verdict.Verdict}
 use Rattle.model_run.specs.{Verdict.GoesOn, Verdict.Ends, Verdict.lacking, Verdict.noRoom}
 use Rattle.model_run.specs.Verdict.{verdict}
+use Rattle.model_run.specs.Secrecy.{Whose, Among}
 use Rattle.model_run.proofs.Levels.{Changed, same, other, changed, at-each}
-use Rattle.model_run.specs.Data.{Entry, Absent, Key, Open, Secret, Command, Call, Neither, Receives, Sends, Level, Low, High, Ending, LettersUsed, Clock}
+use Rattle.model_run.specs.Data.{Entry, Absent, Key, Open, Secret, Command, Call, Neither, Receives, Sends, Level, Low, High, Owner, A, B, Ending, LettersUsed}
+use Rattle.model_run.specs.Data.{Clock}
+
+-- ---- The executions of the owners in question
+
+abbrev pub Theirs : Whose → Level → Type 0
+Theirs o Low = ⊥
+Theirs o (High w) = Among o w
+
+-- the low one is none of them
+abbrev seen : ⊥ → ⊥
+seen z = z
 
 -- ---- What an execution is shown
 
--- an execution other than o's is shown the same of two entries that are equal unless o owns their key
-shown-alike : (o : Level) → Low ≢ o → (l : Level) → l ≢ o → (k : Key) {e f : Entry} → (source k ≢ o → e ≡ f) → shown l k e ≡ shown l k f
+-- any other execution is shown the same of two entries that are equal unless their key is a secret of these owners
+shown-alike : (o : Whose) → (l : Level) → ¬ Theirs o l → (k : Key) {e f : Entry} → (¬ Theirs o (source k) → e ≡ f) → shown l k e ≡ shown l k f
 unfolding shown source
-shown-alike o hid l lo Open h = h hid
-shown-alike o hid Low lo (Secret d) h = refl
-shown-alike o hid High lo (Secret d) h = h lo
+shown-alike o l lo Open h = h seen
+shown-alike o Low lo (Secret w d) h = refl
+shown-alike o (High A) lo (Secret A d) h = h lo
+shown-alike o (High A) lo (Secret B d) h = refl
+shown-alike o (High B) lo (Secret A d) h = refl
+shown-alike o (High B) lo (Secret B d) h = h lo
 
 -- ---- The relation
 
 -- two message lines agree at the keys that o does not own
-abbrev pub LineLike : Level → List Key → List Entry → List Entry → Type 0
-LineLike o ks a b = (k : ℕ) → k < length ks → source (getD ks k Open) ≢ o → getD a k Absent ≡ getD b k Absent
+abbrev pub LineLike : Whose → List Key → List Entry → List Entry → Type 0
+LineLike o ks a b = (k : ℕ) → k < length ks → ¬ Theirs o (source (getD ks k Open)) → getD a k Absent ≡ getD b k Absent
 
-abbrev pub RestLike : Level → List Key → List (List Entry) → List (List Entry) → Type 0
+abbrev pub RestLike : Whose → List Key → List (List Entry) → List (List Entry) → Type 0
 RestLike o ks [] [] = Unit {0}
 RestLike o ks [] (b ∷ bs) = ⊥
 RestLike o ks (a ∷ xs) [] = ⊥
 RestLike o ks (a ∷ xs) (b ∷ bs) = LineLike o ks a b × RestLike o ks xs bs
 
 -- the columns of two sent lines
-pub data Agree (o : Level) : List Key → List Entry → List Entry → Type 0 where
+pub data Agree (o : Whose) : List Key → List Entry → List Entry → Type 0 where
   done : Agree o [] [] []
-  next : {k : Key} {ks : List Key} {e f : Entry} {es fs : List Entry} → (source k ≢ o → e ≡ f) → Agree o ks es fs → Agree o (k ∷ ks) (e ∷ es) (f ∷ fs)
+  next : {k : Key} {ks : List Key} {e f : Entry} {es fs : List Entry} → (¬ Theirs o (source k) → e ≡ f) → Agree o ks es fs → Agree o (k ∷ ks) (e ∷ es) (f ∷ fs)
 
-pub record LinesAgree (o : Level) (ks : List Key) (x y : Sent) : Type 0 where
+pub record LinesAgree (o : Whose) (ks : List Key) (x y : Sent) : Type 0 where
   pub position : x .position ≡ y .position
   pub columns : Agree o ks (x .columns) (y .columns)
 
-pub data SentLike (o : Level) (ks : List Key) : List Sent → List Sent → Type 0 where
+pub data SentLike (o : Whose) (ks : List Key) : List Sent → List Sent → Type 0 where
   none : SentLike o ks [] []
   more : {x y : Sent} {xs ys : List Sent} → LinesAgree o ks x y → SentLike o ks xs ys → SentLike o ks (x ∷ xs) (y ∷ ys)
 
-pub record IncomingLike (o : Level) (ks : List Key) (a b : Incoming) : Type 0 where
+pub record IncomingLike (o : Whose) (ks : List Key) (a b : Incoming) : Type 0 where
   pub rest : RestLike o ks (a .rest) (b .rest)
   pub taken : a .taken ≡ b .taken
 
-pub record OutgoingLike (o : Level) (ks : List Key) (a b : Outgoing) : Type 0 where
+pub record OutgoingLike (o : Whose) (ks : List Key) (a b : Outgoing) : Type 0 where
   pub sent : SentLike o ks (a .sent) (b .sent)
   pub bytes : a .bytes ≡ b .bytes
 
-pub record Like (o : Level) (ks : List Key) (s t : State) : Type 0 where
-  pub processes : (l : Level) → l ≢ o → process l s ≡ process l t
+pub record Like (o : Whose) (ks : List Key) (s t : State) : Type 0 where
+  pub processes : (l : Level) → ¬ Theirs o l → process l s ≡ process l t
   pub kinds : s .kinds ≡ t .kinds
   pub incoming : IncomingLike o ks (s .incoming) (t .incoming)
   pub outgoing : OutgoingLike o ks (s .outgoing) (t .outgoing)
   pub clock : s .clock ≡ t .clock
 
-pub record Same (o : Level) (ks : List Key) (x y : Outcome) : Type 0 where
+pub record Same (o : Whose) (ks : List Key) (x y : Outcome) : Type 0 where
   pub ending : x .ending ≡ y .ending
   pub counts : x .counts ≡ y .counts
   pub lines : SentLike o ks (x .lines) (y .lines)
 
 -- ---- Its parts
 
-sent-snoc : (o : Level) (ks : List Key) {xs ys : List Sent} {x y : Sent} → SentLike o ks xs ys → LinesAgree o ks x y → SentLike o ks (xs ++ (x ∷ [])) (ys ++ (y ∷ []))
+sent-snoc : (o : Whose) (ks : List Key) {xs ys : List Sent} {x y : Sent} → SentLike o ks xs ys → LinesAgree o ks x y → SentLike o ks (xs ++ (x ∷ [])) (ys ++ (y ∷ []))
 sent-snoc o ks none h = more h none
 sent-snoc o ks (more g r) h = more g (sent-snoc o ks r h)
 
 -- the part of two lines from key 1 on
-tail-alike : (o : Level) (k : Key) (ks : List Key) (a b : List Entry) → LineLike o (k ∷ ks) a b → LineLike o ks (drop 1 a) (drop 1 b)
+tail-alike : (o : Whose) (k : Key) (ks : List Key) (a b : List Entry) → LineLike o (k ∷ ks) a b → LineLike o ks (drop 1 a) (drop 1 b)
 tail-alike o k ks a b h i below own = tail a ∙ h (suc i) (suc-le-suc below) own ∙ sym (tail b)
   where
     tail : (es : List Entry) → getD (drop 1 es) i Absent ≡ getD es (suc i) Absent
     tail es = getD-drop 1 es i Absent ∙ ap (λ (n : ℕ). getD es n Absent) (one-add i)
 
-fill-alike : (o : Level) → Low ≢ o → (l : Level) → l ≢ o → (ks : List Key) (a b : List Entry) → LineLike o ks a b → fill l ks a ≡ fill l ks b
+fill-alike : (o : Whose) → (l : Level) → ¬ Theirs o l → (ks : List Key) (a b : List Entry) → LineLike o ks a b → fill l ks a ≡ fill l ks b
 unfolding fill
-fill-alike o hid l lo [] a b h = refl
-fill-alike o hid l lo (k ∷ ks) a b h = ap₂ _∷_ (shown-alike o hid l lo k (h 0 (suc-le-suc zero-le))) (fill-alike o hid l lo ks (drop 1 a) (drop 1 b) (tail-alike o k ks a b h))
+fill-alike o l lo [] a b h = refl
+fill-alike o l lo (k ∷ ks) a b h = ap₂ _∷_ (shown-alike o l lo k (h 0 (suc-le-suc zero-le))) (fill-alike o l lo ks (drop 1 a) (drop 1 b) (tail-alike o k ks a b h))
 
-columns-alike : (o : Level) (ks : List Key) (s t : State) → Like o ks s t → (i : ℕ) (js : List Key) → Agree o js (columns i js (fieldsOf s)) (columns i js (fieldsOf t))
+columns-alike : (o : Whose) (ks : List Key) (s t : State) → Like o ks s t → (i : ℕ) (js : List Key) → Agree o js (columns i js (fieldsOf s)) (columns i js (fieldsOf t))
 unfolding columns
 columns-alike o ks s t h i [] = done
 columns-alike o ks s t h i (j ∷ js) = next (λ own. ap (λ (p : Process). getD (p .fields) i Absent) (h .processes (source j) own)) (columns-alike o ks s t h (suc i) js)
 
-module _ (o : Level) (hid : Low ≢ o) (ks : List Key) where
+module _ (o : Whose) (ks : List Key) where
   -- ---- The steps of a turn keep the relation
 
-  received-alike : (xs ys : List (List Entry)) → RestLike o ks xs ys → (l : Level) → l ≢ o → received ks xs l ≡ received ks ys l
+  received-alike : (xs ys : List (List Entry)) → RestLike o ks xs ys → (l : Level) → ¬ Theirs o l → received ks xs l ≡ received ks ys l
   unfolding received
   received-alike [] [] r l lo = refl
   received-alike [] (y ∷ ys) r l lo = absurd r
   received-alike (x ∷ xs) [] r l lo = absurd r
-  received-alike (x ∷ xs) (y ∷ ys) r l lo = fill-alike o hid l lo ks x y (r .0)
+  received-alike (x ∷ xs) (y ∷ ys) r l lo = fill-alike o l lo ks x y (r .0)
 
   takes-alike : (a b : Incoming) → IncomingLike o ks a b → IncomingLike o ks (takes a) (takes b)
   unfolding takes
@@ -142,22 +157,22 @@ module _ (o : Level) (hid : Low ≢ o) (ks : List Key) where
   counted-alike : (l : Level) (s t : State) → Like o ks s t → Like o ks (counted l s) (counted l t)
   counted-alike l s t h = record { processes = h .processes; kinds = h .kinds; incoming = h .incoming; outgoing = h .outgoing; clock = ap (ticked l) (h .clock) }
 
-  put-alike : {l m : Level} → Changed l m → (p q : Process) (s t : State) → (l ≢ o → p ≡ q) → m ≢ o → process m s ≡ process m t → process m (withProcess l p s) ≡ process m (withProcess l q t)
-  put-alike (same e f) p q s t g mo h = f p (s .processes) ∙ g (λ lo. mo (sym e ∙ lo)) ∙ sym (f q (t .processes))
+  put-alike : {l m : Level} → Changed l m → (p q : Process) (s t : State) → (¬ Theirs o l → p ≡ q) → ¬ Theirs o m → process m s ≡ process m t → process m (withProcess l p s) ≡ process m (withProcess l q t)
+  put-alike (same e f) p q s t g mo h = f p (s .processes) ∙ g (λ lo. mo (subst (Theirs o) e lo)) ∙ sym (f q (t .processes))
   put-alike (other f) p q s t g mo h = f p (s .processes) ∙ h ∙ sym (f q (t .processes))
 
-  with-alike : (l : Level) (p q : Process) (s t : State) → (l ≢ o → p ≡ q) → Like o ks s t → Like o ks (withProcess l p s) (withProcess l q t)
+  with-alike : (l : Level) (p q : Process) (s t : State) → (¬ Theirs o l → p ≡ q) → Like o ks s t → Like o ks (withProcess l p s) (withProcess l q t)
   with-alike l p q s t e h = record { processes = λ m mo. put-alike (changed l m) p q s t e mo (h .processes m mo); kinds = h .kinds; incoming = h .incoming; outgoing = h .outgoing; clock = h .clock }
 
   -- At the low execution: equal low processes stay equal, and so does what all but o see of the message and the output
   lead-alike : (n : ℕ) (c : Command) (s t : State) → Like o ks s t → Like o ks (lead ks n c s) (lead ks n c t)
   unfolding lead
-  lead-alike n c s t h = let g = share-alike (callOf (c .op)) s t h in with-alike leader _ _ _ _ (λ lo. ap (step n c) (g .processes leader hid)) g
+  lead-alike n c s t h = let g = share-alike (callOf (c .op)) s t h in with-alike leader _ _ _ _ (λ lo. ap (step n c) (g .processes leader seen)) g
 
   module _ (cs : List Command) where
     -- At any other execution: what two rules make of it is the same, unless it is o's own, which changes nothing that the others see
     abbrev pub RulesAgree : Rule → Rule → Type 0
-    RulesAgree f g = (l : Level) → role l ≡ follows → l ≢ o → (s t : State) → Like o ks s t → f cs l s ≡ g cs l t
+    RulesAgree f g = (l : Level) → role l ≡ follows → ¬ Theirs o l → (s t : State) → Like o ks s t → f cs l s ≡ g cs l t
 
     -- two runs by one rule: the others' turns start from equal processes
     pub same-rule : RulesAgree following following
@@ -166,7 +181,7 @@ module _ (o : Level) (hid : Low ≢ o) (ks : List Key) where
     moved-alike : (f g : Rule) → RulesAgree f g → (r : Role) (l : Level) → role l ≡ r → (s t : State) → Like o ks s t → Like o ks (moved f r ks cs l s) (moved g r ks cs l t)
     moved-alike f g agree leads l e s t h =
         let led : Process → State → State = λ p. lead ks (length cs) (command cs p) in
-        subst (λ (p : Process). Like o ks (led (process leader s) s) (led p t)) (h .processes leader hid) (lead-alike (length cs) _ s t h)
+        subst (λ (p : Process). Like o ks (led (process leader s) s) (led p t)) (h .processes leader seen) (lead-alike (length cs) _ s t h)
     moved-alike f g agree follows l e s t h = with-alike l _ _ s t (λ lo. agree l e lo s t h) h
 
     turn-alike : (f g : Rule) → RulesAgree f g → (l : Level) (s t : State) → Like o ks s t → Like o ks (turnBy f ks cs l s) (turnBy g ks cs l t)
@@ -177,17 +192,17 @@ module _ (o : Level) (hid : Low ≢ o) (ks : List Key) where
 
     ended-alike : (e : Ending) (s t : State) → Like o ks s t → Same o ks (ended e s) (ended e t)
     unfolding ended
-    ended-alike e s t h = record { ending = refl; counts = cc (h .clock, h .outgoing .bytes, h .incoming .taken, h .processes leader hid); lines = h .outgoing .sent }
+    ended-alike e s t h = record { ending = refl; counts = cc (h .clock, h .outgoing .bytes, h .incoming .taken, h .processes leader seen); lines = h .outgoing .sent }
 
     no-room-alike : (room : ℕ) (ls : List Level) (s t : State) → Like o ks s t → noRoom ks cs room ls s ≡ noRoom ks cs room ls t
     unfolding noRoom
     no-room-alike room [] s t h = refl
     no-room-alike room (l ∷ ls) s t h =
-        ap₂ (λ (p : Process) (n : ℕ). lacking (role l) (callOf (command cs p .op)) (room - n) (lineLength ks)) (h .processes leader hid) (h .outgoing .bytes)
+        ap₂ (λ (p : Process) (n : ℕ). lacking (role l) (callOf (command cs p .op)) (room - n) (lineLength ks)) (h .processes leader seen) (h .outgoing .bytes)
 
     verdict-alike : (room : ℕ) (ls : List Level) (s t : State) → Like o ks s t → verdict ks cs room ls s ≡ verdict ks cs room ls t
     unfolding verdict
-    verdict-alike room ls s t h = cc (h .processes leader hid, no-room-alike room ls s t h)
+    verdict-alike room ls s t h = cc (h .processes leader seen, no-room-alike room ls s t h)
 
     settle-same : (v : Verdict) (s t : State) (x y : Outcome) → Like o ks s t → Same o ks x y → Same o ks (settle v s x) (settle v t y)
     settle-same GoesOn s t x y h later = later

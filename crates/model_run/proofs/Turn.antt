@@ -129,14 +129,14 @@ module _ (ks : List Key) (cs : List Command) (s : State) where
   pub turn-alone : (l : Level) → Alone (role l) l → turn ks cs l s ≡ counted l (withProcess l (stepped l) s)
   unfolding turnBy followed share
   turn-alone Low e = leading Neither e
-  turn-alone High e = ap (followedBy High) e
+  turn-alone (High o) e = ap (followedBy (High o)) e
 
   pub turn-idle : (l : Level) → role l ≡ follows → idlesAt l ≡ true → turn ks cs l s ≡ counted l s
   unfolding turnBy followed
   turn-idle Low f e = absurd (leads-not-follows f)
-  turn-idle High f e =
-      ap (followedBy High) e
-      ∙ ap (λ (ps : Processes). counted High (record { processes = ps; kinds = s .kinds; incoming = s .incoming; outgoing = s .outgoing; clock = s .clock })) (put-at High (s .processes))
+  turn-idle (High o) f e =
+      ap (followedBy (High o)) e
+      ∙ ap (λ (ps : Processes). counted (High o) (record { processes = ps; kinds = s .kinds; incoming = s .incoming; outgoing = s .outgoing; clock = s .clock })) (put-at (High o) (s .processes))
 
   pub turn-receive : callAt leader ≡ Receives → turn ks cs leader s ≡ counted leader (withProcess leader (called (process leader (receive ks s))) (noted Receives (receive ks s)))
   unfolding share noted

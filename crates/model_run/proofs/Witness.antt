@@ -5,30 +5,30 @@ use mathlib.Core.List.{[]}
 use lib.{ListN.getD, Signed.mag}
 use native.Mathlib.Omega.{arith}
 use Rattle.model.specs.{Job.Job, Accepted.rowFor, Accepted.has, Accepted.kept, SheetA.keysA}
-use Rattle.model_run.specs.{Step.presence, Whole.runSheet, Secrecy.OwnedBy, Secrecy.Alike, Secrecy.Indistinguishable, Witness.sheet2, Witness.sheet3}
+use Rattle.model_run.specs.{Step.presence, Whole.runSheet, Secrecy.of, Secrecy.OwnedBy, Secrecy.Alike, Secrecy.Indistinguishable, Witness.sheet2, Witness.sheet3}
 use Rattle.model_run.specs.{Witness.job2, Witness.job3, Witness.lent, Witness.HiddenAt, Witness.Telling, Witness.BoundsReached, Witness.StopHasNoTarget}
-use Rattle.model_run.specs.Data.{Absent, Open, Command, High}
+use Rattle.model_run.specs.Data.{Absent, Open, Command, A}
 use Rattle.model_run.proofs.{Examples.opened, Secrecy.secrecy, Secrecy.sheet-secrecy}
 
-alike : Alike High job2 job3
+alike : Alike (of A) job2 job3
 alike = record { keys = refl; commands = refl; turns = refl; count = refl; entries = go }
   where
-    go : (j k : ℕ) → k < 2 → ¬ OwnedBy High (getD keysA k Open) → getD (getD (job2 .messages) j []) k Absent ≡ getD (getD (job3 .messages) j []) k Absent
+    go : (j k : ℕ) → k < 2 → ¬ OwnedBy (of A) (getD keysA k Open) → getD (getD (job2 .messages) j []) k Absent ≡ getD (getD (job3 .messages) j []) k Absent
     go zero zero b own = refl
     go zero (suc zero) b own = absurd (own refl)
     go zero (suc (suc k)) b own = absurd (omega arith)
     go (suc j) k b own = refl
 
-sheets : Indistinguishable High keysA (runSheet sheet2 lent) (runSheet sheet3 lent)
+sheets : Indistinguishable (of A) keysA (runSheet sheet2 lent) (runSheet sheet3 lent)
 unfolding opened
-sheets = sheet-secrecy sheet2 sheet3 job2 job3 lent refl refl alike
+sheets = sheet-secrecy (of A) sheet2 sheet3 job2 job3 lent refl refl alike
 
 clear : (p : ℕ) → HiddenAt p → (22 ≤ p) × (p ≤ 32)
 unfolding opened
 clear p h = go (h .key) refl
   where
     go : (k : ℕ) → h .key ≡ k → (22 ≤ p) × (p ≤ 32)
-    go zero e = absurd (subst (λ (n : ℕ). OwnedBy High (getD keysA n Open)) e (h .owned))
+    go zero e = absurd (subst (λ (n : ℕ). OwnedBy (of A) (getD keysA n Open)) e (h .owned))
     go (suc k) e = omega arith
 
 pub telling : Telling
@@ -39,7 +39,7 @@ telling =
       accepts3 = refl;
       alike = alike;
       unequal = λ e. omega (arith, ap (λ (j : Job). mag (presence (getD (getD (j .messages) 0 []) 1 Absent))) e);
-      jobs = secrecy job2 job3 lent alike;
+      jobs = secrecy (of A) job2 job3 lent alike;
       sheets = sheets;
       numbers = sheets .numbers;
       differs = λ e. omega arith;

@@ -9,11 +9,11 @@ use mathlib.Core.List.{List, [], _∷_, _++_}
 use lib.{Dec.leb, IntN.pos, ListN.length}
 use Rattle.model.specs.{Text.bytes, Command.blank, Job.Job, Sheet.accepted, Sheet.readSheet, Execution.kindsBy}
 use Rattle.model_run.specs.{Step.callOf, Process.Process, Process.step, Process.command, Process.stopped, State.follows, State.role, State.leader, State.State}
-use Rattle.model_run.specs.{State.process, Line.bytesOf, Verdict.kindAt, Run.unlessIdle, Run.followed, Run.Rule, Run.afterTurns, Run.stateAfter, Run.lowTurnsOf}
-use Rattle.model_run.specs.{Run.ended, Run.runJobBy, Run.runJob, Whole.leftBy, Whole.runSheet, Secrecy.Indistinguishable, Examples.Example, Examples.prints}
-use Rattle.model_run.specs.{Examples.lentByRunsheet}
+use Rattle.model_run.specs.{State.process, Line.bytesOf, Verdict.kindAt, Run.unlessIdle, Run.followed, Run.Rule, Run.following, Run.afterTurns, Run.stateAfter}
+use Rattle.model_run.specs.{Run.lowTurnsOf, Run.ended, Run.runJobBy, Run.runJob, Whole.leftBy, Whole.runSheet, Secrecy.Whose, Secrecy.of, Secrecy.both, Secrecy.Among, Secrecy.Indistinguishable, Examples.Example}
+use Rattle.model_run.specs.{Examples.prints, Examples.lentByRunsheet}
 use Rattle.model_run.specs.Data.{Number, Key, Open, Secret, Set, Read, Put, IfZero, Jump, Receive, Send, Command, Call, Neither, Receives, Sends, Level, Low}
-use Rattle.model_run.specs.Data.{High, Ending}
+use Rattle.model_run.specs.Data.{High, Owner, A, B, Ending}
 
 -- ---- "the j-th high call moves on only if the j-th low call has been made and was of the same kind"
 
@@ -82,15 +82,32 @@ followingBefore cs l s =
     let p = process l s in
     unlessIdle cs (waitsBefore (callOf (command cs p .op)) (process leader s .execution .calls) (p .execution .calls)) p
 
--- By whatever rule the high execution goes, document 01's or any other, a run leaves the seven numbers and every byte outside the secret columns that it leaves
--- by this one; of jobs, and of accepted sheets as texts. (A refused sheet is not run.)
+-- a rule for the executions of these owners, beside this one for that of the other
+unfoldable pub only : Whose → Rule → Rule
+only (of A) f cs Low s = following cs Low s
+only (of A) f cs (High A) s = f cs (High A) s
+only (of A) f cs (High B) s = following cs (High B) s
+only (of B) f cs Low s = following cs Low s
+only (of B) f cs (High A) s = following cs (High A) s
+only (of B) f cs (High B) s = f cs (High B) s
+only both f cs l s = f cs l s
+
+-- so that the rule is that of their turns, and of no others
+abbrev pub OnlyTheirs : Type 0
+OnlyTheirs =
+    (o : Whose) (f : Rule) (cs : List Command) (w : Owner) (s : State)
+    → (Among o w → only o f cs (High w) s ≡ f cs (High w) s) × (¬ Among o w → only o f cs (High w) s ≡ following cs (High w) s)
+
+-- By whatever rule the execution of an owner goes, document 01's or any other, a run leaves the seven numbers and every byte outside that owner's columns that
+-- it leaves by this one; and by whatever rule both go, every byte outside the secret columns. Of jobs, and of accepted sheets as texts. (A refused sheet is not run.)
 abbrev pub OnlySecretColumns : Type 0
-OnlySecretColumns = (f : Rule) (j : Job) (m : List ℕ) → Indistinguishable High (j .keys) (leftBy m (runJob j (length m))) (leftBy m (runJobBy f j (length m)))
+OnlySecretColumns =
+    (o : Whose) (f : Rule) (j : Job) (m : List ℕ) → Indistinguishable o (j .keys) (leftBy m (runJob j (length m))) (leftBy m (runJobBy (only o f) j (length m)))
 
 abbrev pub OnlySecretColumnsOfSheets : Type 0
 OnlySecretColumnsOfSheets =
-    (f : Rule) (s : List ℕ) (j : Job) (m : List ℕ) → readSheet s ≡ accepted j
-    → Indistinguishable High (j .keys) (runSheet s m) (leftBy m (runJobBy f j (length m)))
+    (o : Whose) (f : Rule) (s : List ℕ) (j : Job) (m : List ℕ) → readSheet s ≡ accepted j
+    → Indistinguishable o (j .keys) (runSheet s m) (leftBy m (runJobBy (only o f) j (length m)))
 
 -- ---- The maker's sheet
 
@@ -107,13 +124,14 @@ sheetWrong = sheetWith "send" "LHLHLHLHHHHLLL"
 abbrev pub jobWrong : Job
 jobWrong =
     record {
-      keys = Open ∷ Secret (pos 0) ∷ [];
+      form = 1;
+      keys = Open ∷ Secret A (pos 0) ∷ [];
       commands =
           blank Receive ∷ record { op = Read; v = 0; w = 0; k = 1; t = 0; n = pos 0 } ∷ record { op = IfZero; v = 0; w = 0; k = 0; t = 5; n = pos 0 } ∷ blank Send
           ∷ record { op = Jump; v = 0; w = 0; k = 0; t = 6; n = pos 0 } ∷ blank Receive ∷ record { op = Set; v = 2; w = 0; k = 0; t = 0; n = pos 7 }
           ∷ record { op = Put; v = 2; w = 0; k = 1; t = 0; n = pos 0 } ∷ blank Send ∷ [];
       messages = (Number (pos 1) ∷ Number (pos 1) ∷ []) ∷ (Number (pos 2) ∷ Number (pos 2) ∷ []) ∷ [];
-      turns = Low ∷ High ∷ Low ∷ High ∷ Low ∷ High ∷ Low ∷ High ∷ High ∷ High ∷ High ∷ Low ∷ Low ∷ Low ∷ [];
+      turns = Low ∷ High A ∷ Low ∷ High A ∷ Low ∷ High A ∷ Low ∷ High A ∷ High A ∷ High A ∷ High A ∷ Low ∷ Low ∷ Low ∷ [];
     }
 
 -- "It moved on and worked on a message it had never asked for.": by document 01's rule it put its 7 into the second message, whose entry is 2. Now it is at a
@@ -124,8 +142,8 @@ pub record MakersSheet : Type 0 where
   pub now : bytesOf (runJob jobWrong lentByRunsheet .lines) ≡ bytes "sent=0013 +0000000002 +0000000002\n"
   pub ending : runJob jobWrong lentByRunsheet .ending ≡ runJobBy followingBefore jobWrong lentByRunsheet .ending
   pub counts : runJob jobWrong lentByRunsheet .counts ≡ runJobBy followingBefore jobWrong lentByRunsheet .counts
-  pub other : OtherKind (jobWrong .commands) (stateAfter jobWrong 7 .kinds) (process High (stateAfter jobWrong 7))
-  pub place : process High (stateAfter jobWrong 14) .execution .place ≡ 3
+  pub other : OtherKind (jobWrong .commands) (stateAfter jobWrong 7 .kinds) (process (High A) (stateAfter jobWrong 7))
+  pub place : process (High A) (stateAfter jobWrong 14) .execution .place ≡ 3
 
 -- The whole texts: the maker's sheet; where both receive, the high execution moves on as before; where it would start late, the run has ended. Then two where
 -- it moves on and puts its number: both send as their second call; and its first call is held to the first low one, though the last one was a `send`.

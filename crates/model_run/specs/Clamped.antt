@@ -7,11 +7,11 @@ use mathlib.Core.Bool.{Bool, true, false, cond}
 use mathlib.Core.List.{List, [], _∷_, _++_}
 use lib.{IntN.ℤ, IntN.negsuc, IntN.pos, IntN._+ℤ_, IntN._-ℤ_, IntN._*ℤ_, ListN.replicate, Signed.quotZ}
 use Rattle.model_run.specs.{Arith.least, Arith.outside, Arith.clampsBy, Arith.computed, Arith.quotient, Step.variable, Step.effectOf, Process.Process}
-use Rattle.model_run.specs.{Process.command, State.process, Run.stateAfter, Whole.runSheet, Secrecy.Alike, Examples.Example, Examples.prints}
+use Rattle.model_run.specs.{Process.command, State.process, Run.stateAfter, Whole.runSheet, Secrecy.of, Secrecy.Alike, Examples.Example, Examples.prints}
 use Rattle.model_run.specs.{Examples.lentByRunsheet}
 use Rattle.model.specs.{Number.isZero, Text.bytes, Command.blank, Job.Job, Sheet.accepted, Sheet.readSheet, Answer.numbersOf}
 use Rattle.model_run.specs.Data.{Entry, Number, Secret, Op, Set, Add, Sub, Mul, Div, Read, Has, Put, Drop, IfNeg, IfZero, Jump, Receive, Send, Stop, Command, Low}
-use Rattle.model_run.specs.Data.{High}
+use Rattle.model_run.specs.Data.{High, A}
 
 -- ---- "Each of `add`, `sub`, `mul` and `div` shall say whether its exact result lay outside the range"
 
@@ -89,20 +89,21 @@ doubling n = bytes "sheet=1\nkeys=1\nsecret=0:0\ndo=receive\ndo=read 0 0\ndo=add
 abbrev pub doublingJob : ℤ → Job
 doublingJob n =
     record {
-      keys = Secret (pos 0) ∷ [];
+      form = 1;
+      keys = Secret A (pos 0) ∷ [];
       commands =
           blank Receive ∷ record { op = Read; v = 0; w = 0; k = 0; t = 0; n = pos 0 } ∷ record { op = Add; v = 0; w = 0; k = 0; t = 0; n = pos 0 } ∷ blank Stop ∷ [];
       messages = (Number n ∷ []) ∷ [];
-      turns = Low ∷ High ∷ Low ∷ High ∷ Low ∷ High ∷ Low ∷ High ∷ [];
+      turns = Low ∷ High A ∷ Low ∷ High A ∷ Low ∷ High A ∷ Low ∷ High A ∷ [];
     }
 
 -- Of one the high execution has a clamped result, of the other none, and the seven numbers of both are the same
 pub record HighUntold : Type 0 where
   pub acceptsGreat : readSheet (doubling "2147483647") ≡ accepted (doublingJob (pos 2147483647))
   pub acceptsSmall : readSheet (doubling "1") ≡ accepted (doublingJob (pos 1))
-  pub alike : Alike High (doublingJob (pos 2147483647)) (doublingJob (pos 1))
-  pub great : process High (stateAfter (doublingJob (pos 2147483647)) 7) .execution .clamped ≡ 1
-  pub small : process High (stateAfter (doublingJob (pos 1)) 7) .execution .clamped ≡ 0
+  pub alike : Alike (of A) (doublingJob (pos 2147483647)) (doublingJob (pos 1))
+  pub great : process (High A) (stateAfter (doublingJob (pos 2147483647)) 7) .execution .clamped ≡ 1
+  pub small : process (High A) (stateAfter (doublingJob (pos 1)) 7) .execution .clamped ≡ 0
   pub numbers : numbersOf (runSheet (doubling "2147483647") (replicate lentByRunsheet 0) .answer) ≡ numbersOf (runSheet (doubling "1") (replicate lentByRunsheet 0) .answer)
 
 -- ---- Whole texts

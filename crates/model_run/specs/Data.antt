@@ -1,6 +1,8 @@
 -- The plain data of `model`, passed on under one name.
 pub use Rattle.model.specs.declared.Entry.{Entry}
 pub use Rattle.model.specs.declared.Entry.the-variants.{Absent, Number}
+pub use Rattle.model.specs.declared.Owner.{Owner}
+pub use Rattle.model.specs.declared.Owner.the-variants.{A, B}
 pub use Rattle.model.specs.declared.Key.{Key}
 pub use Rattle.model.specs.declared.Key.the-variants.{Open, Secret}
 pub use Rattle.model.specs.declared.Op.{Op}

@@ -14,7 +14,7 @@ use Rattle.model_run.specs.Data.{Absent, Call, Neither, Receives, Sends,
 -- the job that a sheet says; of a refused one, which none of these is, one with nothing in it
 abbrev pub said : Reading → Job
 said (accepted j) = j
-said (refused n l) = record { keys = []; commands = []; messages = []; turns = [] }
+said (refused n l) = record { form = 1; keys = []; commands = []; messages = []; turns = [] }
 
 -- what f gives for the n steps from step s on, and the calls of a plain run of N steps
 unfoldable pub stepsFrom : {A : Type 0} → (ℕ → A) → ℕ → ℕ → List A

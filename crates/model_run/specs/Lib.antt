@@ -17,5 +17,6 @@ pub mod Witness
 pub mod CallKinds
 pub mod Clamped
 pub mod Plain
+pub mod Owners
 pub mod Honest
 pub mod HonestExamples

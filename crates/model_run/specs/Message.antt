@@ -4,23 +4,28 @@ use lib.ListN.{getD, drop, length}
 use Prim.Native.Nat.{ℕ, suc}
 use Rattle.model_run.specs.{Process.absentFields, Process.refill, Line.Sent, Line.lineLength, State.each, State.takes, State.sends, State.State, State.fieldsOf}
 use Rattle.model_run.specs.{State.withOutgoing}
-use Rattle.model_run.specs.Data.{Entry, Absent, Number, Key, Open, Secret, Level, Low, High}
+use Rattle.model_run.specs.Data.{Entry, Absent, Number, Key, Open, Secret, Level, Low, High, A, B}
 
 -- ---- `receive`
 
 -- "at an open key both fields are the entry or absent. At a secret key the low field is the dummy, whether or not the line has that key, and the
--- high field is the entry or absent."
+-- high field is the entry or absent." Document 02, Note 8: "At each message line A's sees A's entries and B's dummies, whether or not the line has those keys,
+-- and B's the reverse"
 unfoldable pub shown : Level → Key → Entry → Entry
 shown l Open e = e
-shown Low (Secret d) e = Number d
-shown High (Secret d) e = e
+shown Low (Secret o d) e = Number d
+shown (High A) (Secret A d) e = e
+shown (High A) (Secret B d) e = Number d
+shown (High B) (Secret A d) e = Number d
+shown (High B) (Secret B d) e = e
 
 -- the fields of a level as a message line fills them, key by key
 unfoldable pub fill : Level → List Key → List Entry → List Entry
 fill l [] es = []
 fill l (k ∷ ks) es = shown l k (getD es 0 Absent) ∷ fill l ks (drop 1 es)
 
--- "`receive` takes the next message line and fills all fields"; "With no line left, every field becomes absent."
+-- "`receive` takes the next message line and fills all fields"; "With no line left, every field becomes absent."; Note 8: "with no line left every field becomes
+-- absent, as before"
 unfoldable pub received : List Key → List (List Entry) → Level → List Entry
 received ks [] l = absentFields (length ks)
 received ks (line ∷ rest) l = fill l ks line
@@ -37,10 +42,10 @@ receive ks s =
 
 -- ---- `send`
 
--- "open keys from the low fields, secret keys from the high fields"
+-- "open keys from the low fields, secret keys from the high fields"; Note 8: "A secret column comes from its owner's execution."
 unfoldable pub source : Key → Level
 source Open = Low
-source (Secret d) = High
+source (Secret o d) = High o
 
 -- the columns of the keys from number i on, each from the fields of its level
 unfoldable pub columns : ℕ → List Key → (Level → List Entry) → List Entry

@@ -1,4 +1,4 @@
--- The paired model: two executions and one message, turn by turn, to the run's ending.
+-- The paired model: the executions and the one message that they share, turn by turn, to the run's ending.
 use mathlib.Core.List.{List, [], _∷_}
 use Prim.Native.Nat.{ℕ}
 use mathlib.Core.Bool.{Bool, cond}
@@ -97,7 +97,7 @@ run ks cs room s ls = runBy following ks cs room s ls
 unfoldable pub initial : List Key → List (List Entry) → State
 initial ks ms =
     record {
-      processes = record { low = fresh (length ks); high = fresh (length ks) };
+      processes = record { low = fresh (length ks); a = fresh (length ks); b = fresh (length ks) };
       kinds = [];
       incoming = record { rest = ms; taken = 0 };
       outgoing = record { sent = []; bytes = 0 };

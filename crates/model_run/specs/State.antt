@@ -1,8 +1,8 @@
--- The state of a run: two executions, each with its own fields of the one message, the kinds of the calls made, what came in, what went out, and the clock.
+-- The state of a run: the executions, each with its own fields of the one message, the kinds of the calls made, what came in, what went out, and the clock.
 use mathlib.Core.List.{List, [], _∷_, _++_}
 use Prim.Native.Nat.{ℕ, _+_}
 use Rattle.model_run.specs.{Process.Process, Line.Sent}
-use Rattle.model_run.specs.Data.{Entry, Call, Level, Low, High, Clock}
+use Rattle.model_run.specs.Data.{Entry, Call, Level, Low, High, A, B, Clock}
 
 -- ---- The levels
 
@@ -11,29 +11,33 @@ pub data Role : Type 0 where
   leads : Role
   follows : Role
 
+-- Document 02, Note 8: "Each waits for the low one as the high one did."
 abbrev pub role : Level → Role
 role Low = leads
-role High = follows
+role (High o) = follows
 
 abbrev pub leader : Level
 leader = Low
 
--- The executions, one for each level
+-- The executions, one for each level. "There are three executions."; in a sheet of the first form B's has no turn and no key.
 pub record Processes : Type 0 where
   pub low : Process
-  pub high : Process
+  pub a : Process
+  pub b : Process
 
 -- the process of a level; another in its place; a change of each
 unfoldable pub at : Level → Processes → Process
 at Low ps = ps .low
-at High ps = ps .high
+at (High A) ps = ps .a
+at (High B) ps = ps .b
 
 unfoldable pub put : Level → Process → Processes → Processes
-put Low p ps = record { low = p; high = ps .high }
-put High p ps = record { low = ps .low; high = p }
+put Low p ps = record { low = p; a = ps .a; b = ps .b }
+put (High A) p ps = record { low = ps .low; a = p; b = ps .b }
+put (High B) p ps = record { low = ps .low; a = ps .a; b = p }
 
 unfoldable pub each : (Level → Process → Process) → Processes → Processes
-each f ps = record { low = f Low (ps .low); high = f High (ps .high) }
+each f ps = record { low = f Low (ps .low); a = f (High A) (ps .a); b = f (High B) (ps .b) }
 
 -- ---- What is common to the executions
 

@@ -6,8 +6,8 @@ use mathlib.Core.Logic.{_≢_}
 use mathlib.Core.List.{List, [], _∷_}
 use lib.{IntN.pos, IntN.negsuc, ListN.length, ListN.getD, ListN.replicate}
 use Rattle.model.specs.{Job.Job, Sheet.accepted, Sheet.readSheet, Answer.numbersOf, Answer.bytesWritten, Accepted.Bare, SheetA.sheetA}
-use Rattle.model_run.specs.{Run.runJob, Whole.leftBy, Whole.runSheet, Secrecy.Alike, Secrecy.Hidden, Secrecy.Indistinguishable, Examples.lentByRunsheet}
-use Rattle.model_run.specs.Data.{Absent, Number, Open, Set, Add, Stop, Low, High}
+use Rattle.model_run.specs.{Run.runJob, Whole.leftBy, Whole.runSheet, Secrecy.of, Secrecy.Alike, Secrecy.Hidden, Secrecy.Indistinguishable, Examples.lentByRunsheet}
+use Rattle.model_run.specs.Data.{Absent, Number, Open, Set, Add, Stop, Low, High, A}
 use Rattle.model.specs.SheetA.{keysA, jobA, ten, job1}
 
 -- ---- Demand 3
@@ -34,7 +34,7 @@ lent = replicate 64 0
 
 -- a place that lies in a secret column of what P2 leaves
 abbrev pub HiddenAt : ℕ → Type 0
-HiddenAt p = Hidden High keysA (bytesWritten (numbersOf (runSheet sheet2 lent .answer))) p
+HiddenAt p = Hidden (of A) keysA (bytesWritten (numbersOf (runSheet sheet2 lent .answer))) p
 
 -- P2 and P3 are accepted, alike and not equal, so that demand 3 speaks of them, over jobs and over sheets. Their seven numbers are equal, and yet
 -- their outputs differ, at place 22, the sign in the secret column. The places 22 to 32 are hidden, which are that column, and no others: none in
@@ -42,25 +42,26 @@ HiddenAt p = Hidden High keysA (bytesWritten (numbersOf (runSheet sheet2 lent .a
 pub record Telling : Type 0 where
   pub accepts2 : readSheet sheet2 ≡ accepted job2
   pub accepts3 : readSheet sheet3 ≡ accepted job3
-  pub alike : Alike High job2 job3
+  pub alike : Alike (of A) job2 job3
   pub unequal : job2 ≢ job3
-  pub jobs : Indistinguishable High keysA (leftBy lent (runJob job2 (length lent))) (leftBy lent (runJob job3 (length lent)))
-  pub sheets : Indistinguishable High keysA (runSheet sheet2 lent) (runSheet sheet3 lent)
+  pub jobs : Indistinguishable (of A) keysA (leftBy lent (runJob job2 (length lent))) (leftBy lent (runJob job3 (length lent)))
+  pub sheets : Indistinguishable (of A) keysA (runSheet sheet2 lent) (runSheet sheet3 lent)
   pub numbers : numbersOf (runSheet sheet2 lent .answer) ≡ numbersOf (runSheet sheet3 lent .answer)
   pub differs : getD (runSheet sheet2 lent .memory) 22 0 ≢ getD (runSheet sheet3 lent .memory) 22 0
   pub hidden : (p : ℕ) → 22 ≤ p → p ≤ 32 → HiddenAt p
   pub clear : (p : ℕ) → HiddenAt p → (22 ≤ p) × (p ≤ 32)
-  pub apart : ¬ Indistinguishable High keysA (runSheet sheet2 lent) (runSheet otherSheet lent)
+  pub apart : ¬ Indistinguishable (of A) keysA (runSheet sheet2 lent) (runSheet otherSheet lent)
 
 -- ---- Counts
 
 abbrev pub job4 : Job
-job4 = jobA (Number (pos 1480)) (Low ∷ High ∷ Low ∷ High ∷ [])
+job4 = jobA (Number (pos 1480)) (Low ∷ High A ∷ Low ∷ High A ∷ [])
 
 -- two low steps, of which the second doubles the greatest number
 abbrev pub jobDoubled : Job
 jobDoubled =
     record {
+      form = 1;
       keys = Open ∷ [];
       commands = record { op = Set; v = 0; w = 0; k = 0; t = 0; n = pos 2147483647 } ∷ record { op = Add; v = 0; w = 0; k = 0; t = 0; n = pos 0 } ∷ [];
       messages = [];

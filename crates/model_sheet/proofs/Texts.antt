@@ -7,7 +7,7 @@ use native.Mathlib.Omega.{arith}
 use lib.{Dec.eqb, Dec.ltb, ListN.length, ListN.getD, ListN.take, ListN.drop, Seq.split-at}
 use borrow.Author.Tests.{eqb-true, ltb-true}
 use Rattle.model.specs.{Parsed.got, Text.find, Text.divide, Text.split, Text.grow, Text.init, Text.lines, Text.lineFeed, Sheet.closed}
-use Rattle.model_text.proofs.LineLaws.{split-some}
+use Rattle.model_text.proofs.{TextLaws.find-at, LineLaws.split-some}
 use Rattle.model_text.specs.Text.{joined, unlines}
 use Rattle.model_sheet.proofs.Passed.{got-is, when-got}
 
@@ -31,17 +31,6 @@ joined-split c (b ∷ s) =
     ∙ ap (λ (x : List ℕ). b ∷ x) (ap (joined c) (sym (k .2)) ∙ joined-split c s)
 
 -- ---- Before and after a byte
-
--- where the first c is found there is a c
-find-at : (c : ℕ) (s : List ℕ) → find c s < length s → getD s (find c s) 0 ≡ c
-unfolding find
-find-at c [] h = absurd (omega arith)
-find-at c (b ∷ s) h = go (eqb b c) refl (λ g. find-at c s g) h
-  where
-    go : (t : Bool) → eqb b c ≡ t → (find c s < length s → getD s (find c s) 0 ≡ c)
-        → cond t 0 (suc (find c s)) < suc (length s) → getD (b ∷ s) (cond t 0 (suc (find c s))) 0 ≡ c
-    go true e i h = eqb-true b c e
-    go false e i h = i (omega arith)
 
 -- a text that was divided is what stood before c, c, and what stood after it
 pub divide-back : (c n : ℕ) (s : List ℕ) (xy : List ℕ × List ℕ) → divide c n s ≡ got xy → xy .0 ++ (c ∷ xy .1) ≡ s

@@ -4,9 +4,11 @@ use mathlib.Core.List.{List, [], _∷_}
 use Prim.Native.Nat.{ℕ}
 use lib.IntN.{pos, negsuc}
 use Rattle.model.specs.{Text.bytes, SheetA.sheetA, Job.Job, SheetA.job1}
+use Rattle.model.specs.{SheetTwo.jobBoth, SheetTwo.sheetBoth}
 use Rattle.model.specs.declared.Entry.the-variants.{Absent, Number}
 use Rattle.model.specs.declared.Key.the-variants.{Open, Secret}
 use Rattle.model.specs.declared.Op.the-variants.{Set, Add, IfNeg}
+use Rattle.model.specs.declared.Owner.the-variants.{A, B}
 use Rattle.model.specs.declared.Level.the-variants.{Low, High}
 use Rattle.model_sheet.specs.Sheet.{sheetText}
 
@@ -26,14 +28,15 @@ AllHold (e ∷ es) = Holds e × AllHold es
 unfoldable pub jobEmpty : Job
 jobEmpty =
     record {
-      keys = Secret (pos 0) ∷ Open ∷ Secret (negsuc 2147483647) ∷ [];
+      form = 1;
+      keys = Secret A (pos 0) ∷ Open ∷ Secret A (negsuc 2147483647) ∷ [];
       commands =
           record { op = Set; v = 7; w = 0; k = 0; t = 0; n = negsuc 2147483647 }
           ∷ record { op = Add; v = 7; w = 3; k = 0; t = 0; n = pos 0 }
           ∷ record { op = IfNeg; v = 7; w = 0; k = 0; t = 3; n = pos 0 }
           ∷ [];
       messages = (Absent ∷ Absent ∷ Absent ∷ []) ∷ (Absent ∷ Number (negsuc 0) ∷ Absent ∷ []) ∷ [];
-      turns = High ∷ Low ∷ [];
+      turns = High A ∷ Low ∷ [];
     }
 
 unfoldable pub list : List Example
@@ -43,4 +46,5 @@ list =
       job = jobEmpty;
       text = bytes "sheet=1\nkeys=3\nsecret=0:0\nsecret=2:-2147483648\ndo=set 7 -2147483648\ndo=add 7 3\ndo=ifneg 7 3\nmsg=\nmsg=1:-1\nturns=HL\n";
     }
+    ∷ record { job = jobBoth; text = sheetBoth }
     ∷ []

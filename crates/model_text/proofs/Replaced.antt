@@ -18,7 +18,8 @@ use Rattle.model_text.proofs.{Bytes.Spans, Bytes.every-made, Bytes.ever
 use Rattle.model_text.proofs.{Commands.command-read, Commands.command-printed, Phases.Named, Phases.Other, Phases.other-line, Phases.never, Phases.many-other}
 use Rattle.model_text.proofs.{Phases.many-all, Phases.many-again, Phases.many-written, Phases.some-got}
 use Rattle.model_text.proofs.Readings.{next-got, targets-within, afterMessages, messages-got, ended-instead, Passes, accepted-passes, passes-accepted, passes-instead}
-use Rattle.model_text.proofs.Opening.{Beyond, opening-through}
+use Rattle.model_text.proofs.Opening.{Beyond, form-least, opening-through}
+use Rattle.model.proofs.Forms.{every-form-fits}
 
 -- a line of another name than `do`
 abbrev Foreign : List ℕ → Type 0
@@ -101,10 +102,9 @@ module _ (old tail : List (List ℕ)) (all : Every (Named (bytes "do")) old) (ot
 
     lines-instead : (ls : List (List ℕ)) → Every Foreign ls → Beyond (old ++ tail) → Beyond new → Small (length (j .keys)) → length cs ≤ mostCommands
         → readLines (ls ++ (old ++ tail)) ≡ accepted j → readLines (ls ++ new) ≡ accepted (withCommands j cs)
-    unfolding formOf
     lines-instead ls none p r small few e =
         opening-through (old ++ tail) new p r ls j (withCommands j cs) e (λ number K top ks ms q last e₁.
-        body-instead (formOf number) ks K top ms q (every-last Foreign (last .0) ms (subst (Every Foreign) (last .1) none)) small (omega arith) few e₁)
+        body-instead (formOf number) ks K top ms q (every-last Foreign (last .0) ms (subst (Every Foreign) (last .1) none)) small (omega (arith, every-form-fits number .commands)) (omega (arith, few, form-least number .0)) e₁)
 
 -- ---- The sheet
 
@@ -159,7 +159,7 @@ module _ (head old tail : List ℕ) (j : Job) (cut : CutAtProgram head old tail 
       let new-named = every-made commandLine (Named (bytes "do")) (λ c. (commandText c, refl)) cs in
       let new-beyond = do-beyond (map commandLine cs) (lines tail) (rw (length-map cs commandLine) any) new-named in
       passes-instead head old tail (map commandLine cs) j (withCommands j cs) (cut .headEnds) (cut .tailEnds) (every-made commandLine (Spans 32 126) command-printed cs) p
-      (lines-instead (lines old) (lines tail) old-named (do-other tail (cut .behind)) j cs any within bare (lines head) none old-beyond new-beyond (omega arith) few
+      (lines-instead (lines old) (lines tail) old-named (do-other tail (cut .behind)) j cs any within bare (lines head) none old-beyond new-beyond (omega (arith, every-form-fits (j .form) .keys)) few
       (ap readLines (sym lines-cut) ∙ p .reads))
 
 pub program-pasted : ProgramPasted

@@ -7,7 +7,7 @@ use Prim.Native.Nat.{ℕ, suc, _+_, _-_, _*_, _<_, _≤_, pred}
 use native.Mathlib.{Numerals.add-one, Omega.arith, Decide.decLt}
 use lib.{Dec.eqb, Dec.leb, ListN.length, ListN.getD, ListN.take, ListN.drop, ListN.drop-of-length-le, ListN.length-drop, ListN.take-append-drop, Seq.drop-cons, Seq.drop-drop, Seq.take-all, IntN.pos}
 use lib.{IntN.negsuc}
-use borrow.Author.Tests.{eq-eqb, ne-eqb, leb-true, leb-false, le-leb, lt-leb}
+use borrow.Author.Tests.{eq-eqb, ne-eqb, eqb-true, leb-true, leb-false, le-leb, lt-leb}
 use Rattle.model.specs.{Limits.greatestNumber, Limits.leastNumber, Parsed.got, Parsed.refused, Parsed._>>=_, Number.digits, Number.digitsTo, Number.within, Number.upTo}
 use Rattle.model.specs.{Number.fromOne, Number.natural, Number.negative, Number.positive, Number.number, Text.find, Text.count, Text.classOf, Text.between}
 use Rattle.model.specs.{Sheet.forbiddenLine, Sheet.closed, Sheet.overText}
@@ -34,6 +34,17 @@ find-later c s i h n m =
     let q : i + 1 + 1 ≡ i + 2 = omega arith in
     let e = ap (λ (j : ℕ). find c (drop j s)) q in
     omega (arith, find-next c s i k n, find-next c s (i + 1) h m, e)
+
+-- where the first c is found there is a c
+pub find-at : (c : ℕ) (s : List ℕ) → find c s < length s → getD s (find c s) 0 ≡ c
+unfolding find
+find-at c [] h = absurd (omega arith)
+find-at c (b ∷ s) h = go (eqb b c) refl (λ g. find-at c s g) h
+  where
+    go : (t : Bool) → eqb b c ≡ t → (find c s < length s → getD s (find c s) 0 ≡ c)
+        → cond t 0 (suc (find c s)) < suc (length s) → getD (b ∷ s) (cond t 0 (suc (find c s))) 0 ≡ c
+    go true e i h = eqb-true b c e
+    go false e i h = i (omega arith)
 
 pub find-end : (c : ℕ) (s : List ℕ) (i : ℕ) → length s ≤ i → find c (drop i s) ≡ 0
 unfolding find

@@ -13,7 +13,7 @@ use Rattle.model_text.specs.Text.{messageLines, commandLines}
 
 -- a job with more messages behind its own
 abbrev pub withMore : Job → List (List Entry) → Job
-withMore j ms = record { keys = j .keys; commands = j .commands; messages = j .messages ++ ms; turns = j .turns }
+withMore j ms = record { form = j .form; keys = j .keys; commands = j .commands; messages = j .messages ++ ms; turns = j .turns }
 
 -- A sheet that is accepted, cut before its line `turns`: what stands before the cut ends with a line feed, and what stands behind it begins with `turns=`
 pub record CutAtTurns (head tail : List ℕ) (j : Job) : Type 0 where
@@ -33,7 +33,7 @@ Pasted =
 
 -- a job with other commands in place of its own
 abbrev pub withCommands : Job → List Command → Job
-withCommands j cs = record { keys = j .keys; commands = cs; messages = j .messages; turns = j .turns }
+withCommands j cs = record { form = j .form; keys = j .keys; commands = cs; messages = j .messages; turns = j .turns }
 
 -- a text begins with `do=`
 abbrev pub startsDo : List ℕ → Bool

@@ -5,6 +5,7 @@ use Rattle.model.specs.{Number.fromOne, Phase.one, Head.readSecrets, Stored.key
 use Rattle.model_text.specs.Found.{Word}
 use Rattle.read_line.specs.Phase.{Reads}
 use Rattle.read_pair.specs.Pair.{byKey}
+use Rattle.model.specs.declared.Form.{Form}
 use Rattle.read_head.specs.declared.{NumberLine.NumberLine, Secrets.Secrets}
 
 -- a line of the name that p has, with a number from 1 to the limit
@@ -13,5 +14,5 @@ pub record NumberRead (p : List ℕ) (limit : ℕ) (s : List ℕ) (first : ℕ) 
   pub least : 1 ≤ r .value
   pub most : r .value ≤ limit
 
-pub record SecretsRead (K : ℕ) (s : List ℕ) (first : ℕ) (r : Secrets) : Type 0 where
-  pub read : Reads (readSecrets K) s first (r .phase) (byKey keyIn K (r .least) (r .slots))
+pub record SecretsRead (f : Form) (K : ℕ) (s : List ℕ) (first : ℕ) (r : Secrets) : Type 0 where
+  pub read : Reads (readSecrets f K) s first (r .phase) (byKey keyIn K (r .least) (r .slots))

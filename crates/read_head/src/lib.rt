@@ -1,4 +1,5 @@
 // The first lines of a sheet: `sheet` and `keys`, which hold one number, and the `secret` lines.
+use model::Form;
 use model::KEY_CAPACITY;
 use model::Key;
 use model::KeySlot;
@@ -6,8 +7,8 @@ use model::StoredJob;
 use read_line::Found;
 use read_line::Phase;
 use read_line::first_line;
-use read_pair::Pair;
-use read_pair::read_pair;
+use read_secret::Secret;
+use read_secret::read_secret;
 use read_text::Natural;
 use read_text::from_one;
 ghost use Prim.Native.Nat.{_+_, _<_, _≤_};
@@ -51,9 +52,9 @@ pub fn number_line(s: &[u8], name: &[u8], limit: u64, first: u32) -> NumberLine
 }
 
 // The `secret` lines at the start of s, of which the first has the number first.
-pub fn read_secrets(s: &[u8], keys: u64, first: u32) -> Secrets
+pub fn read_secrets(s: &[u8], form: Form, keys: u64, first: u32) -> Secrets
     requires { ⌜ (1 ≤ keys) × (keys ≤ keyCapacity) × (first + length (now s) < 4294967296) ⌝ }
-    ensures { λ r. ⌜ SecretsRead keys (now (s .entry)) first r ⌝ }
+    ensures { λ r. ⌜ SecretsRead form keys (now (s .entry)) first r ⌝ }
 {
     let mut slots = StoredJob::open_keys();
     let mut least: u64 = 0;
@@ -67,15 +68,15 @@ pub fn read_secrets(s: &[u8], keys: u64, first: u32) -> Secrets
                 phase = Phase::Got(line, a);
                 break;
             }
-            Found::At(v, e) => match read_pair(&t[v..e], keys, least) {
-                Pair::Refused(r) => {
+            Found::At(v, e) => match read_secret(&t[v..e], form.owners, keys, least) {
+                Secret::Refused(r) => {
                     phase = Phase::Refused(r, line);
                     break;
                 }
-                Pair::Got(k, dummy) => {
+                Secret::Got(k, owner, dummy) => {
                     let at = k as usize;
                     slots[at] = KeySlot {
-                        key: Key::Secret(dummy),
+                        key: Key::Secret(owner, dummy),
                     };
                     least = k + 1;
                     line += 1;

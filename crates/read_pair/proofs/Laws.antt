@@ -12,11 +12,11 @@ use Rattle.read_pair.specs.Pair.{byKey}
 -- ---- One `key:value`
 
 module _ (c n : ℕ) (p : List ℕ) (e : ℕ) (q : e ≡ find c p) where
-  divide-none : length p ≤ e → divide c n p ≡ refused n
+  pub divide-none : length p ≤ e → divide c n p ≡ refused n
   unfolding divide
   divide-none h = rw (← q, le-ltb _ _ h)
 
-  divide-at : e < length p → divide c n p ≡ got (take e p, drop (e + 1) p)
+  pub divide-at : e < length p → divide c n p ≡ got (take e p, drop (e + 1) p)
   unfolding divide
   divide-at h = rw (← q, lt-ltb _ _ h, add-one)
 

@@ -1,16 +1,17 @@
 -- Laws of the loops over what a count covers of an array: what is left of it passes or not as the whole does, and makes the rest of what the whole makes.
 use Prim.Native.Nat.{ℕ, _+_, _<_, _≤_}
 use mathlib.Core.Path.{_≡_, refl, sym, ap, _∙_}
-use mathlib.Core.Bool.{Bool, true, false, _&&_, and-false, and-true}
+use mathlib.Core.Bool.{Bool, true, false, cond, _&&_, _||_, and-false, and-true}
 use mathlib.Core.List.{List, [], _∷_, _++_, map, append-nil, append-assoc}
 use native.Mathlib.{Numerals.add-one, Omega.arith}
 use borrow.Author.Tests.{ltb-true, le-leb}
 use mir.{Syntax.w32, Val.SFits}
 use lib.{IntN.ℤ, Signed.mag, Dec.eqb, Dec.leb, Dec.ltb, ListN.length, ListN.getD, ListN.take, ListN.drop, ListN.set, ListN.replicate, ListN.drop-of-length-le}
 use lib.Seq.{drop-cons, getD-take, length-take-le}
-use Rattle.model.specs.{Limits.greatestNumber, Stored.firstOf}
+use Rattle.model.specs.{Limits.greatestNumber, Turns.letterB, Form.thirdOf, Stored.firstOf, Stored.keyIn, Stored.openSlot}
+use Rattle.model.specs.declared.{Form.Form, Key.Key, Key.the-variants.Open, KeySlot.KeySlot}
 use Rattle.model.proofs.Stored.{first-set, first-same, map-more}
-use Rattle.model_record.specs.Record.{all, rising, entersAll, inRange, secretFits}
+use Rattle.model_record.specs.Record.{all, rising, entersAll, inRange, ownerFits, secretFits, letterFits, keyOf, hides}
 use Rattle.model_record.specs.declared.SecretRecord.{SecretRecord}
 use Rattle.model_text.proofs.TextLaws.{and-both}
 
@@ -46,6 +47,46 @@ module _ {A : Type 0} {p : A → Bool} {xs : List A} {i : ℕ} (t : Tested p xs 
   pub tested-end : drop i xs ≡ [] → all p xs ≡ true
   unfolding all
   tested-end e = t .same ∙ rw e
+
+-- ---- The same without an exit: whether all those before i pass
+
+pub record Told {A : Type 0} (p : A → Bool) (xs : List A) (i : ℕ) (fit : Bool) : Type 0 where
+  pub same : all p xs ≡ fit && all p (drop i xs)
+
+and-assoc : (a b c : Bool) → a && (b && c) ≡ (a && b) && c
+and-assoc true b c = refl
+and-assoc false b c = refl
+
+module _ {A : Type 0} {p : A → Bool} {xs : List A} {i : ℕ} {fit : Bool} (t : Told p xs i fit) where
+  -- one more, which passes or not
+  pub told-more : {x : A} {q : Bool} → drop i xs ≡ x ∷ drop (i + 1) xs → q ≡ p x → Told p xs (i + 1) (fit && q)
+  unfolding all
+  told-more {x} e h =
+      let rest = all p (drop (i + 1) xs) in
+      record { same = t .same ∙ ap (λ (ys : List A). fit && all p ys) e ∙ and-assoc fit (p x) rest ∙ ap (λ (b : Bool). (fit && b) && rest) (sym h) }
+
+  -- there is none left
+  pub told-end : drop i xs ≡ [] → fit ≡ all p xs
+  unfolding all
+  told-end e = sym (t .same ∙ ap (λ (ys : List A). fit && all p ys) e ∙ and-true fit)
+
+-- a byte is one of the three letters exactly if it is one of the form's
+again : (x y : Bool) → (x || y) || y ≡ x || (y || false)
+again true y = refl
+again false true = refl
+again false false = refl
+
+apart : (x y z : Bool) → (x || y) || z ≡ x || (y || (true && z))
+apart true y z = refl
+apart false y z = refl
+
+pub letter-among : (f : Form) (b t : ℕ) → t ≡ thirdOf f → (eqb b (f .low) || eqb b (f .high)) || eqb b t ≡ letterFits f b
+unfolding letterFits
+letter-among f b t e = ap (λ (n : ℕ). (eqb b (f .low) || eqb b (f .high)) || eqb b n) e ∙ go (f .owners)
+  where
+    go : (two : Bool) → (eqb b (f .low) || eqb b (f .high)) || eqb b (cond two letterB (f .high)) ≡ eqb b (f .low) || (eqb b (f .high) || (two && eqb b letterB))
+    go true = apart (eqb b (f .low)) (eqb b (f .high)) (eqb b letterB)
+    go false = again (eqb b (f .low)) (eqb b (f .high))
 
 -- ---- Elements that are made into those of another array, one after the other, as g shows them
 
@@ -142,5 +183,40 @@ pub in-range : {z : ℤ} → SFits w32 z → inRange z ≡ true
 in-range {z} h = le-leb (mag z) greatestNumber (omega (arith, h .sfits))
 
 -- so only a secret's owner is left to test
-pub secret-fits : (s : SecretRecord) → SFits w32 (s .dummy) → secretFits s ≡ eqb (s .owner) 0
-secret-fits s h = rw (in-range h) (and-true (eqb (s .owner) 0))
+pub secret-fits : (two : Bool) (s : SecretRecord) → SFits w32 (s .dummy) → secretFits two s ≡ ownerFits two (s .owner)
+secret-fits two s h = rw (in-range h) (and-true (ownerFits two (s .owner)))
+
+-- ---- Secrets that are put at their keys
+
+abbrev pub secretPair : SecretRecord → ℕ × ℤ
+secretPair s = (s .key, s .dummy)
+
+-- those before i pass and are at their keys in the slots
+pub record Hiding (two : Bool) (K : ℕ) (xs : List SecretRecord) (i next : ℕ) (slots : List KeySlot) : Type 0 where
+  pub test : good secretPair (secretFits two) K 0 xs ≡ good secretPair (secretFits two) K next (drop i xs)
+  pub made : hides (replicate K Open) xs ≡ hides (firstOf keyIn K slots) (drop i xs)
+
+module _ {two : Bool} {K : ℕ} where
+  pub hiding-begins : (m : ℕ) {xs : List SecretRecord} → K ≤ m → Hiding two K xs 0 0 (replicate m openSlot)
+  hiding-begins m {xs} h = record { test = refl; made = ap (λ (l : List Key). hides l xs) (sym (first-same keyIn K m openSlot h)) }
+
+  module _ {xs : List SecretRecord} {i next : ℕ} {slots : List KeySlot} (t : Hiding two K xs i next slots) where
+    pub hiding-bad : {x : SecretRecord} {ys : List SecretRecord} → drop i xs ≡ x ∷ ys → goodOne secretPair (secretFits two) K next x ≡ false → good secretPair (secretFits two) K 0 xs ≡ false
+    hiding-bad {x} {ys} e h =
+        t .test ∙ ap (good secretPair (secretFits two) K next) e ∙ first-good secretPair (secretFits two) K next x ys
+        ∙ ap (λ (b : Bool). b && good secretPair (secretFits two) K (x .key + 1) ys) h
+
+    pub hiding-more : {x : SecretRecord} (s : KeySlot) → drop i xs ≡ x ∷ drop (i + 1) xs → goodOne secretPair (secretFits two) K next x ≡ true → keyIn s ≡ keyOf x
+        → Hiding two K xs (i + 1) (x .key + 1) (set slots (x .key) s)
+    unfolding hides
+    hiding-more {x} s e h q =
+        record {
+          test =
+              t .test ∙ ap (good secretPair (secretFits two) K next) e ∙ first-good secretPair (secretFits two) K next x (drop (i + 1) xs)
+              ∙ ap (λ (b : Bool). b && good secretPair (secretFits two) K (x .key + 1) (drop (i + 1) xs)) h;
+          made = t .made ∙ rw (e, first-set keyIn K slots (x .key) s (good-below secretPair (secretFits two) K next x h), q);
+        }
+
+    pub hiding-end : drop i xs ≡ [] → (good secretPair (secretFits two) K 0 xs ≡ true) × (firstOf keyIn K slots ≡ hides (replicate K Open) xs)
+    unfolding all rising hides
+    hiding-end e = (t .test ∙ ap (good secretPair (secretFits two) K next) e, sym (t .made ∙ rw e))

@@ -3,8 +3,10 @@ use Prim.Native.Nat.{_≤_}
 use mathlib.Core.Path.{_≡_, refl, sym, _∙_, subst}
 use mathlib.Core.Bool.{Bool, true, false, _&&_, and-assoc, false≢true, true≢false}
 use borrow.Author.Tests.{leb-true}
-use lib.{Dec.eqb, Dec.leb, ListN.length, ListN.take}
-use Rattle.model.specs.{Limits.formNumber, Form.formOne, Form.formOf, Text.between, Stored.keyCapacity, Stored.commandCapacity, Stored.messageCapacity, Stored.letterCapacity, Stored.jobOf}
+use native.Mathlib.Omega.{arith}
+use Rattle.model.proofs.Forms.{every-form-fits}
+use lib.{Dec.leb, ListN.length, ListN.take}
+use Rattle.model.specs.{Limits.forms, Form.formOf, Text.between, Stored.keyCapacity, Stored.commandCapacity, Stored.messageCapacity, Stored.letterCapacity, Stored.jobOf}
 use Rattle.model.specs.Stored.{nothingStored}
 use Rattle.model_record.specs.Record.{all, letterFits, countsFit, passes, jobIn}
 use Rattle.model_record.specs.declared.JobRecord.{JobRecord}
@@ -14,18 +16,19 @@ use Rattle.read_record.specs.declared.{Keys.Keys, Commands.Commands, Mes
 
 -- ---- The counts
 
--- the tests one after the other, by the limits of the one form
+-- the tests one after the other, by the limits of the form
 pub counts-test : (r : JobRecord) →
-    let f = formOne in
-    eqb (r .form) formNumber && leb 1 (r .keys) && leb (r .keys) (f .keys) && leb (r .«secret_count») (r .keys) && leb 1 (r .«command_count») && leb (r .«command_count») (f .commands)
+    let f = formOf (r .form) in
+    leb 1 (r .form) && leb (r .form) forms && leb 1 (r .keys) && leb (r .keys) (f .keys) && leb (r .«secret_count») (r .keys) && leb 1 (r .«command_count») && leb (r .«command_count») (f .commands)
     && leb (r .«message_count») (f .messages) && leb 1 (r .«letter_count») && leb (r .«letter_count») (f .letters)
     ≡ countsFit r
-unfolding countsFit formOf
+unfolding countsFit
 counts-test r = simp and-assoc
 
 -- what they tell: no count is above its places
 pub record Few (r : JobRecord) : Type 0 where
   pub someKeys : 1 ≤ r .keys
+  pub form : r .form ≤ forms
   pub keys : r .keys ≤ keyCapacity
   pub secrets : r .«secret_count» ≤ r .keys
   pub commands : r .«command_count» ≤ commandCapacity
@@ -33,10 +36,11 @@ pub record Few (r : JobRecord) : Type 0 where
   pub letters : r .«letter_count» ≤ letterCapacity
 
 pub few : (r : JobRecord) → countsFit r ≡ true → Few r
-unfolding countsFit formOf
+unfolding countsFit
 few r h =
-    let f = formOne in
-    let form = and-both (eqb (r .form) formNumber) _ h in
+    let f = formOf (r .form) in
+    let fits = every-form-fits (r .form) in
+    let form = and-both (between 1 forms (r .form)) _ h in
     let keys = and-both (between 1 (f .keys) (r .keys)) _ (form .1) in
     let secrets = and-both (leb (r .«secret_count») (r .keys)) _ (keys .1) in
     let commands = and-both (between 1 (f .commands) (r .«command_count»)) _ (secrets .1) in
@@ -44,11 +48,12 @@ few r h =
     let k = between-in 1 (f .keys) (r .keys) (keys .0) in
     record {
       someKeys = k .0;
-      keys = k .1;
+      form = between-in 1 forms (r .form) (form .0) .1;
+      keys = omega (arith, k .1, fits .keys);
       secrets = leb-true _ _ (secrets .0);
-      commands = between-in 1 (f .commands) (r .«command_count») (commands .0) .1;
-      messages = leb-true _ _ (messages .0);
-      letters = between-in 1 (f .letters) (r .«letter_count») (messages .1) .1;
+      commands = omega (arith, between-in 1 (f .commands) (r .«command_count») (commands .0) .1, fits .commands);
+      messages = omega (arith, leb-true (r .«message_count») (f .messages) (messages .0), fits .messages);
+      letters = omega (arith, between-in 1 (f .letters) (r .«letter_count») (messages .1) .1, fits .letters);
     }
 
 -- ---- A record that does not pass
@@ -74,15 +79,15 @@ counts-bad r h = rw h
 -- what they say
 pub record Answers (r : JobRecord) (ks : Keys) (cs : Commands) (ms : Messages) (b : Bool) : Type 0 where
   pub counts : countsFit r ≡ true
-  pub secrets : SecretsTaken (r .keys) (take (r .«secret_count») (r .secrets)) ks
+  pub secrets : SecretsTaken (formOf (r .form) .owners) (r .keys) (take (r .«secret_count») (r .secrets)) ks
   pub commands : CommandsTaken (r .keys) (r .«command_count») (take (r .«command_count») (r .commands)) cs × (r .«command_count» ≤ length (r .commands))
   pub messages : MessagesTaken (r .keys) (r .«message_count») (take (r .«message_count») (r .messages)) ms
-  pub letters : (b ≡ all (letterFits formOne) (take (r .«letter_count») (r .letters))) × (r .«letter_count» ≤ length (r .letters))
+  pub letters : (b ≡ all (letterFits (formOf (r .form))) (take (r .«letter_count») (r .letters))) × (r .«letter_count» ≤ length (r .letters))
 
 module _ {r : JobRecord} {ks : Keys} {cs : Commands} {ms : Messages} {b : Bool} (a : Answers r ks cs ms b) where
   -- it passes if all four do
   pub four : ks .fit && cs .fit && ms .fit && b ≡ passes r
-  unfolding passes formOf
+  unfolding passes
   four = rw (a .counts, a .secrets .fits, a .commands .0 .fits, a .messages .fits, a .letters .0) (simp and-assoc)
 
   -- and then it is the job that they give
@@ -90,6 +95,7 @@ module _ {r : JobRecord} {ks : Keys} {cs : Commands} {ms : Messages} {b : Bool} 
       → Takes r (record {
         passes = true;
         job = record {
+          form = r .form;
           keys = r .keys;
           secrets = ks .slots;
           «command_count» = r .«command_count»;

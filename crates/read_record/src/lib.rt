@@ -5,7 +5,7 @@ use model::COMMAND_CAPACITY;
 use model::Command;
 use model::Entry;
 use model::EntrySlot;
-use model::FORM_NUMBER;
+use model::FORMS;
 use model::Form;
 use model::KEY_CAPACITY;
 use model::Key;
@@ -13,6 +13,7 @@ use model::KeySlot;
 use model::LAST_VARIABLE;
 use model::MESSAGE_CAPACITY;
 use model::MessageLine;
+use model::Owner;
 use model::StoredJob;
 use model::WORDS;
 use model_record::COMMAND_PLACES;
@@ -23,6 +24,8 @@ use model_record::KEY_PLACES;
 use model_record::LETTER_PLACES;
 use model_record::MESSAGE_PLACES;
 use model_record::MessageRecord;
+use model_record::OWNER_A;
+use model_record::OWNER_B;
 use model_record::SecretRecord;
 use pack_command::op_at;
 ghost use mathlib.Core.Path.{_≡_};
@@ -30,7 +33,7 @@ ghost use mathlib.Core.Bool.{false, cond};
 ghost use Prim.Native.Nat.{_≤_};
 ghost use lib.ListN.{take, length};
 ghost use Rattle.model.specs.{Stored.keyCapacity, Stored.commandCapacity, Stored.messageCapacity, Stored.letterCapacity, Stored.nothingStored};
-ghost use Rattle.model_record.specs.Record.{all, commandFits, letterFits, countsFit, commandOf};
+ghost use Rattle.model_record.specs.Record.{all, ownerFits, ownerOf, commandFits, letterFits, countsFit, commandOf};
 ghost use Rattle.read_record.specs.Read.{LimitsAt, Narrow, SecretsTaken, CommandsTaken, EntriesTaken, MessagesTaken, Takes};
 
 // Whether what was looked at is as it must be, and what it says then.
@@ -60,9 +63,28 @@ pub struct Taken {
     pub job: StoredJob,
 }
 
-fn secrets_of(secrets: [SecretRecord; KEY_PLACES], count: usize, keys: usize) -> Keys
+// Where owners are named, `A` or `B`; else 0.
+fn owner_fits(owner: u32, owners: bool) -> bool
+    ensures { λ r. ⌜ r ≡ ownerFits owners owner ⌝ }
+{
+    if owners {
+        return (owner == OWNER_A) | (owner == OWNER_B);
+    }
+    owner == 0
+}
+
+fn owner_of(owner: u32) -> Owner
+    ensures { λ r. ⌜ r ≡ ownerOf owner ⌝ }
+{
+    if owner == OWNER_B {
+        return Owner::B;
+    }
+    Owner::A
+}
+
+fn secrets_of(secrets: [SecretRecord; KEY_PLACES], count: usize, keys: usize, owners: bool) -> Keys
     requires { ⌜ (count ≤ keys) × (keys ≤ keyCapacity) ⌝ }
-    ensures { λ r. ⌜ SecretsTaken keys (take count secrets) r ⌝ }
+    ensures { λ r. ⌜ SecretsTaken owners keys (take count secrets) r ⌝ }
 {
     let mut slots = StoredJob::open_keys();
     let mut next: usize = 0;
@@ -71,12 +93,14 @@ fn secrets_of(secrets: [SecretRecord; KEY_PLACES], count: usize, keys: usize) ->
         let s = secrets[i];
         let key = s.key as usize;
         let dummy = s.dummy;
-        let fits = (next <= key) & (key < keys) & (s.owner == 0);
+        let known = owner_fits(s.owner, owners);
+        let fits = (next <= key) & (key < keys) & known;
         if !fits {
             return Keys { fit: false, slots };
         }
+        let owner = owner_of(s.owner);
         slots[key] = KeySlot {
-            key: Key::Secret(dummy),
+            key: Key::Secret(owner, dummy),
         };
         next = key + 1;
         i += 1;
@@ -221,27 +245,28 @@ fn messages_of(messages: [MessageRecord; MESSAGE_PLACES], count: usize, keys: us
     }
 }
 
+// No letter decides what is done next, so that the compiler tests many in one step.
 fn letters_fit(letters: [u8; LETTER_PLACES], count: usize, form: Form) -> bool
     requires { ⌜ count ≤ letterCapacity ⌝ }
     ensures { λ r. ⌜ (r ≡ all (letterFits form) (take count letters)) × (count ≤ length letters) ⌝ }
 {
+    let third = form.third();
+    let mut fit = true;
     let mut i: usize = 0;
     while i < count {
         let b = letters[i];
-        let fits = (b == form.low) | (b == form.high);
-        if !fits {
-            return false;
-        }
+        fit = fit & ((b == form.low) | (b == form.high) | (b == third));
         i += 1;
     }
-    true
+    fit
 }
 
 fn counts_fit(r: JobRecord) -> bool
     ensures { λ b. ⌜ b ≡ countsFit r ⌝ }
 {
-    let form = Form::one();
-    (r.form as u64 == FORM_NUMBER)
+    let form = Form::of(r.form as u64);
+    (1 <= r.form)
+        & (r.form as u64 <= FORMS)
         & (1 <= r.keys)
         & (r.keys as u64 <= form.keys)
         & (r.secret_count <= r.keys)
@@ -274,10 +299,11 @@ pub fn read_record(r: JobRecord) -> Taken
     let commands = r.commands;
     let messages = r.messages;
     let turns = r.letters;
-    let dummies = secrets_of(secrets, r.secret_count as usize, keys);
+    let form = Form::of(r.form as u64);
+    let dummies = secrets_of(secrets, r.secret_count as usize, keys, form.owners);
     let program = commands_of(commands, command_count, r.keys);
     let queue = messages_of(messages, message_count, keys);
-    let fit = letters_fit(turns, turn_count, Form::one());
+    let fit = letters_fit(turns, turn_count, form);
     if !(dummies.fit & program.fit & queue.fit & fit) {
         return refuse();
     }
@@ -285,6 +311,7 @@ pub fn read_record(r: JobRecord) -> Taken
     let commands = program.commands;
     let messages = queue.messages;
     let job = StoredJob {
+        form: r.form as u64,
         keys,
         secrets,
         command_count,

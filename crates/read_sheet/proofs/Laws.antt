@@ -32,7 +32,7 @@ keys-word = record { sign = refl; no-sign = refl; no-feed = refl }
 
 -- the two lines of a number as phases
 module _ {s : List ℕ} {n : ℕ} {r : NumberLine} where
-  pub first-phase : NumberRead (115 ∷ 104 ∷ 101 ∷ 101 ∷ 116 ∷ 61 ∷ []) 1 s n r → Reads readFirst s n (r .phase) (r .value)
+  pub first-phase : NumberRead (115 ∷ 104 ∷ 101 ∷ 101 ∷ 116 ∷ 61 ∷ []) 2 s n r → Reads readFirst s n (r .phase) (r .value)
   unfolding readFirst sheetLine
   first-phase h = h .read (bytes "sheet") sheet-word
 
@@ -78,7 +78,7 @@ abbrev afterSecrets : Form → ℕ → ByKey Key → ℕ → List (List ℕ) →
 afterSecrets f K ks top ls₃ = readBody f (ks .at) K top ls₃
 
 abbrev afterKeys : Form → ℕ → ℕ → List (List ℕ) → Reading
-afterKeys f K n₁ ls₂ = next (readSecrets K n₁ ls₂) (afterSecrets f K)
+afterKeys f K n₁ ls₂ = next (readSecrets f K n₁ ls₂) (afterSecrets f K)
 
 abbrev afterForm : Form → ℕ → List (List ℕ) → Reading
 afterForm f n₀ ls₁ = next (readKeys f n₀ ls₁) (afterKeys f)
@@ -97,7 +97,7 @@ module _ {s : List ℕ} {c₀ : Phase} {x : ℕ} (h₀ : Reads readFirst s 1 c�
     pub stop-keys : {r n : ℕ} → c₁ ≡ Refused r n → readLines (lines s) ≡ refused r n
     stop-keys q = chosen ∙ stops h₁ (afterKeys f) q
 
-    module _ {n₁ b : ℕ} (q₁ : c₁ ≡ Got n₁ b) {u : List ℕ} (d₁ : u ≡ drop b t) {c₂ : Phase} {ks : ByKey Key} (h₂ : Reads (readSecrets K) u n₁ c₂ ks) where
+    module _ {n₁ b : ℕ} (q₁ : c₁ ≡ Got n₁ b) {u : List ℕ} (d₁ : u ≡ drop b t) {c₂ : Phase} {ks : ByKey Key} (h₂ : Reads (readSecrets f K) u n₁ c₂ ks) where
       pub stop-secrets : {r n : ℕ} → c₂ ≡ Refused r n → readLines (lines s) ≡ refused r n
       stop-secrets q = chosen ∙ goes-on h₁ (afterKeys f) q₁ d₁ ∙ stops h₂ (afterSecrets f K) q
 
@@ -106,12 +106,12 @@ module _ {s : List ℕ} {c₀ : Phase} {x : ℕ} (h₀ : Reads readFirst s 1 c�
 
 -- ---- The commands, the messages and the turns
 
-abbrev job : List Key → List Command → List (List Entry) → List Level → Job
-job ks cs ms ts = record { keys = ks; commands = cs; messages = ms; turns = ts }
+abbrev job : ℕ → List Key → List Command → List (List Entry) → List Level → Job
+job n ks cs ms ts = record { form = n; keys = ks; commands = cs; messages = ms; turns = ts }
 
 module _ (f : Form) (ks : List Key) (K : ℕ) {top : ℕ} {s : List ℕ} {c₀ : Phase} {cs : List Command} (h₀ : Reads (readCommands f K) s top c₀ cs) where
   abbrev afterMessages : List Command → List (List Entry) → ℕ → List (List ℕ) → Reading
-  afterMessages cs ms n₂ ls₂ = next (readTurns f n₂ ls₂) (λ ts n₃ ls₃. targets top (length cs) cs (job ks cs ms ts))
+  afterMessages cs ms n₂ ls₂ = next (readTurns f n₂ ls₂) (λ ts n₃ ls₃. targets top (length cs) cs (job (f .number) ks cs ms ts))
 
   abbrev afterCommands : List Command → ℕ → List (List ℕ) → Reading
   afterCommands cs n₂ ls₄ = next (readMessages f K n₂ ls₄) (afterMessages cs)
@@ -127,13 +127,13 @@ module _ (f : Form) (ks : List Key) (K : ℕ) {top : ℕ} {s : List ℕ} {c₀ :
 
     module _ {n₃ b : ℕ} (q₁ : c₁ ≡ Got n₃ b) {u : List ℕ} (d₁ : u ≡ drop b t) {c₂ : Phase} {ts : List Level} (h₂ : Reads (readTurns f) u n₃ c₂ ts) where
       abbrev finished : List Level → ℕ → List (List ℕ) → Reading
-      finished ls n ls₃ = targets top (length cs) cs (job ks cs ms ls)
+      finished ls n ls₃ = targets top (length cs) cs (job (f .number) ks cs ms ls)
 
       pub stop-turns : {r n : ℕ} → c₂ ≡ Refused r n → readBody f ks K top (lines s) ≡ refused r n
       unfolding readBody
       stop-turns q = goes-on h₀ afterCommands q₀ d₀ ∙ goes-on h₁ (afterMessages cs) q₁ d₁ ∙ stops h₂ finished q
 
-      pub body-read : {n d : ℕ} → c₂ ≡ Got n d → readBody f ks K top (lines s) ≡ targets top (length cs) cs (job ks cs ms ts)
+      pub body-read : {n d : ℕ} → c₂ ≡ Got n d → readBody f ks K top (lines s) ≡ targets top (length cs) cs (job (f .number) ks cs ms ts)
       unfolding readBody
       body-read {n} {d} q = goes-on h₀ afterCommands q₀ d₀ ∙ goes-on h₁ (afterMessages cs) q₁ d₁ ∙ goes-on h₂ finished {t = drop d u} q refl
 

@@ -1,5 +1,5 @@
 // A whole sheet: the job that it says, or the refusal that comes first.
-use model::FORM_NUMBER;
+use model::FORMS;
 use model::Form;
 use model::KEY_CAPACITY;
 use model::KeySlot;
@@ -58,13 +58,6 @@ fn test_targets(job: StoredJob, top: u32) -> Read
     }
 }
 
-// The form that the number of the line `sheet` chooses. There is one.
-fn form_of(number: u64) -> Form
-    ensures { λ r. ⌜ r ≡ formOf number ⌝ }
-{
-    Form::one()
-}
-
 // The lines after the secrets, the first of which is the line top.
 fn read_body(s: &[u8], form: Form, keys: u64, secrets: [KeySlot; KEY_CAPACITY], top: u32) -> Read
     requires { ⌜ Fits form × (1 ≤ keys) × (keys ≤ form .keys) × (top + length (now s) ≤ mostBytes + 1) ⌝ }
@@ -90,6 +83,7 @@ fn read_body(s: &[u8], form: Form, keys: u64, secrets: [KeySlot; KEY_CAPACITY], 
                             let messages = queue.messages;
                             let turns = last.letters;
                             let job = StoredJob {
+                                form: form.number,
                                 keys: keys as usize,
                                 secrets,
                                 command_count: program.count,
@@ -113,12 +107,12 @@ fn read_lines(s: &[u8]) -> Read
     requires { ⌜ length (now s) ≤ mostBytes ⌝ }
     ensures { λ r. ⌜ Answers (readLines (lines (now (s .entry)))) r ⌝ }
 {
-    let first = number_line(s, b"sheet=", FORM_NUMBER, 1);
+    let first = number_line(s, b"sheet=", FORMS, 1);
     let phase = first.phase;
     match phase {
         Phase::Refused(number, line) => refuse(number, line),
         Phase::Got(line, a) => {
-            let form = form_of(first.value);
+            let form = Form::of(first.value);
             let t = &s[a..];
             let second = number_line(t, b"keys=", form.keys, line);
             let phase = second.phase;
@@ -127,7 +121,7 @@ fn read_lines(s: &[u8]) -> Read
                 Phase::Got(line, b) => {
                     let u = &t[b..];
                     let keys = second.value;
-                    let dummies = read_secrets(u, keys, line);
+                    let dummies = read_secrets(u, form, keys, line);
                     let phase = dummies.phase;
                     match phase {
                         Phase::Refused(number, line) => refuse(number, line),

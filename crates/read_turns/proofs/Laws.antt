@@ -1,19 +1,22 @@
 -- Laws of the line `turns` of a sheet of the form f: its name, its letters, and the end of the text after it.
 use mathlib.Core.Path.{_≡_, refl, sym, ap, _∙_}
-use mathlib.Core.Bool.{Bool, true, false, cond}
+use mathlib.Core.Bool.{Bool, true, false, cond, _&&_, _||_, true≢false}
 use mathlib.Core.List.{List, [], _∷_, _++_, map, append-nil, append-assoc}
 use Prim.Native.Nat.{ℕ, _+_, _<_, _≤_}
 use native.Mathlib.Omega.{arith}
 use lib.{Dec.eqb, ListN.length, ListN.take, ListN.drop, ListN.set, ListN.getD}
-use borrow.Author.Tests.{eq-eqb, ne-eqb, lt-leb, le-leb}
+use borrow.Author.Tests.{eq-eqb, ne-eqb, eqb-true, lt-leb, le-leb}
 use Rattle.model.specs.{Parsed.Parsed, Parsed.got, Parsed.refused, Parsed._>>=_, Text.bytes, Text.find, Text.lineFeed, Phase.Phase, Phase.one, Text.free}
-use Rattle.model.specs.{Turns.letter, Turns.letters, Turns.turnsLine, Turns.nothingAfter, Turns.readTurns, Stored.levelOf, Form.Fits}
+use Rattle.model.specs.{Turns.letterL, Turns.letterB, Turns.second, Turns.letter, Turns.letters, Turns.turnsLine, Turns.nothingAfter, Turns.readTurns, Stored.levelOf, Form.Fits}
 use Rattle.model.specs.declared.{Form.Form, Level.Level}
+use Rattle.model.specs.declared.Level.the-variants.{Low, High}
+use Rattle.model.specs.declared.Owner.the-variants.{A, B}
 use Rattle.model_text.specs.Found.{Word}
 use Rattle.model_text.proofs.{TextLaws.uncons, TextLaws.done, LineLaws.lines-none, LineLaws.lines-more}
 use Rattle.read_line.specs.Phase.{Reads}
 use Rattle.read_line.specs.declared.Phase.the-variants.{Got, Refused}
 use Rattle.model.proofs.Stored.{map-more}
+use Rattle.model.specs.Form.{thirdOf}
 use Rattle.read_turns.specs.Turns.{LetterKnown}
 
 pub turns-word : Word (bytes "turns") (116 ∷ 117 ∷ 114 ∷ 110 ∷ 115 ∷ 61 ∷ [])
@@ -53,15 +56,40 @@ module _ (f : Form) (s : List ℕ) (i : ℕ) (copy : List ℕ) where
         go (got ls) = ap got (sym (append-assoc copied (levelOf (getD s i 0) ∷ []) ls))
         go (refused n) = refl
 
--- a byte by the form's two letters, of which the low one is that of `levelOf`
+-- a byte by the form's letters, of which each is that of its level
+second-by : (two : Bool) (high b : ℕ) → (b ≡ letterL → ⊥) → (b ≡ high → ⊥)
+    → second two b ≡ cond (eqb b (cond two letterB high)) (got (levelOf b)) (refused 9)
+second-by false high b low n = rw (ne-eqb _ _ n)
+second-by true high b low n = go (eqb b letterB) refl
+  where
+    go : (t : Bool) → eqb b letterB ≡ t → cond t (got (High B)) (refused 9) ≡ cond t (got (cond (eqb b letterL) Low (cond t (High B) (High A)))) (refused 9)
+    go true q = rw (ne-eqb _ _ low)
+    go false q = refl
+
 module _ {f : Form} (fits : Fits f) (b : ℕ) where
-  pub letter-low : b ≡ f .low → LetterKnown f b true
+  letter-low : b ≡ f .low → LetterKnown f b true
   unfolding letter
   letter-low e = record { read = rw (eq-eqb _ _ e, eq-eqb _ _ (e ∙ fits .low)) }
 
-  pub letter-high : (b ≡ f .low → ⊥) → LetterKnown f b (eqb b (f .high))
+  letter-high : (b ≡ f .low → ⊥) → b ≡ f .high → LetterKnown f b true
   unfolding letter
-  letter-high n = record { read = rw (ne-eqb _ _ n, ne-eqb _ _ (λ e. n (e ∙ sym (fits .low)))) }
+  letter-high n e = record { read = rw (ne-eqb _ _ n, eq-eqb _ _ e) (ap got (sym (ap levelOf e ∙ fits .high))) }
+
+  letter-third : (b ≡ f .low → ⊥) → (b ≡ f .high → ⊥) → (t : ℕ) → t ≡ thirdOf f → LetterKnown f b (eqb b t)
+  unfolding letter
+  letter-third n m t e = record { read = rw (ne-eqb _ _ n, ne-eqb _ _ m, e) (second-by (f .owners) (f .high) b (λ l. n (l ∙ sym (fits .low))) m) }
+
+  -- held to the three at once
+  pub letter-among : (t : ℕ) → t ≡ thirdOf f → LetterKnown f b ((eqb b (f .low) || eqb b (f .high)) || eqb b t)
+  letter-among t e = low (eqb b (f .low)) refl
+    where
+      high : (x : Bool) → eqb b (f .high) ≡ x → (b ≡ f .low → ⊥) → LetterKnown f b (x || eqb b t)
+      high true q n = letter-high n (eqb-true b (f .high) q)
+      high false q n = letter-third n (λ m. true≢false (sym (eq-eqb b (f .high) m) ∙ q)) t e
+
+      low : (x : Bool) → eqb b (f .low) ≡ x → LetterKnown f b ((x || eqb b (f .high)) || eqb b t)
+      low true q = letter-low (eqb-true b (f .low) q)
+      low false q = high (eqb b (f .high)) refl (λ m. true≢false (sym (eq-eqb b (f .low) m) ∙ q))
 
 module _ {f : Form} {b : ℕ} {r : Bool} (h : LetterKnown f b r) where
   pub letter-is : r ≡ true → letter f b ≡ got (levelOf b)
@@ -69,6 +97,18 @@ module _ {f : Form} {b : ℕ} {r : Bool} (h : LetterKnown f b r) where
 
   pub letter-is-not : r ≡ false → letter f b ≡ refused 9
   letter-is-not q = h .read ∙ ap (λ (x : Bool). cond x (got (levelOf b)) (refused 9)) q
+
+-- what is read as long as all letters are known
+abbrev pub sofar : Bool → Parsed (List Level) → Parsed (List Level)
+sofar known r = cond known r (refused 9)
+
+-- one letter more, known or not
+pub letters-more : (f : Form) (s : List ℕ) (i : ℕ) (copy : List ℕ) → i < length s → i < length copy → (known r : Bool) → LetterKnown f (getD s i 0) r
+    → sofar known (onto (map levelOf (take i copy)) (letters f (drop i s)))
+    ≡ sofar (known && r) (onto (map levelOf (take (i + 1) (set copy i (getD s i 0)))) (letters f (drop (i + 1) s)))
+letters-more f s i copy h l false r k = refl
+letters-more f s i copy h l true true k = letters-next f s i copy h l (k .read)
+letters-more f s i copy h l true false k = letters-bad f s i copy h (k .read)
 
 -- ---- The line `turns`
 

@@ -4,13 +4,18 @@ use mathlib.Core.Bool.{Bool, cond}
 use mathlib.Core.List.{List, map}
 use Prim.Native.Nat.{ℕ, _≤_}
 use lib.ListN.{length, take}
-use Rattle.model.specs.{Parsed.got, Parsed.refused, Turns.letter, Turns.turnsLine, Turns.readTurns, Stored.levelOf}
-use Rattle.model.specs.declared.Form.{Form}
+use Rattle.model.specs.{Parsed.got, Parsed.refused, Turns.letterB, Turns.letter, Turns.turnsLine, Turns.readTurns, Stored.levelOf}
+use Rattle.model.specs.declared.{Form.Form, Level.Level}
+use Rattle.read_line.specs.declared.Checked.{Checked}
 use Rattle.read_line.specs.Phase.{Reads, checkedAs}
 use Rattle.read_turns.specs.declared.{Letters.Letters, Turns.Turns}
 
 pub record LetterKnown (f : Form) (b : ℕ) (r : Bool) : Type 0 where
   pub read : letter f b ≡ cond r (got (levelOf b)) (refused 9)
+
+-- all were known, or refusal 9
+abbrev pub Tells : Bool → Checked → Type 0
+Tells known c = (ls : List Level) → checkedAs c ls ≡ cond known (got ls) (refused 9)
 
 pub record LettersCopied (f : Form) (s : List ℕ) (r : Letters) : Type 0 where
   pub read : checkedAs (r .checked) (map levelOf (take (r .count) (r .letters))) ≡ turnsLine f s

@@ -6,10 +6,11 @@ use read_line::Found;
 use read_line::Phase;
 use read_line::first_line;
 use read_text::find_byte;
+ghost use mathlib.Core.Path.{_≡_};
 ghost use Prim.Native.Nat.{_+_, _<_};
 ghost use lib.ListN.{length};
-ghost use Rattle.model.specs.Form.{Fits};
-ghost use Rattle.read_turns.specs.Turns.{LetterKnown, LettersCopied, TurnsRead};
+ghost use Rattle.model.specs.Form.{Fits, thirdOf};
+ghost use Rattle.read_turns.specs.Turns.{LetterKnown, Tells, LettersCopied, TurnsRead};
 
 // The first count letters of the array.
 pub struct Turns {
@@ -25,17 +26,24 @@ struct Letters {
     pub letters: [u8; LETTER_CAPACITY],
 }
 
-fn is_letter(b: u8, form: Form) -> bool
-    requires { ⌜ Fits form ⌝ }
+fn is_letter(b: u8, form: Form, third: u8) -> bool
+    requires { ⌜ Fits form × (third ≡ thirdOf form) ⌝ }
     ensures { λ r. ⌜ LetterKnown form b r ⌝ }
 {
-    if b == form.low {
-        return true;
-    }
-    b == form.high
+    (b == form.low) | (b == form.high) | (b == third)
 }
 
-// What follows `turns=`, copied as it is tested.
+// Refusal 9 unless all are known.
+fn checked_of(known: bool) -> Checked
+    ensures { λ r. ⌜ Tells known r ⌝ }
+{
+    if known {
+        return Checked::Got;
+    }
+    Checked::Refused(9)
+}
+
+// What follows `turns=`, copied as it is tested. No byte decides what is done next, so that the compiler tests and copies many in one step.
 fn copy_letters(s: &[u8], form: Form) -> Letters
     requires { ⌜ Fits form ⌝ }
     ensures { λ r. ⌜ LettersCopied form (now (s .entry)) r ⌝ }
@@ -55,21 +63,16 @@ fn copy_letters(s: &[u8], form: Form) -> Letters
             letters,
         };
     }
-    let checked: Checked;
-    let mut i = 0;
-    loop {
-        if s.len() <= i {
-            checked = Checked::Got;
-            break;
-        }
+    let third = form.third();
+    let mut known = true;
+    let mut i: usize = 0;
+    while i < s.len() {
         let b = s[i];
-        if !is_letter(b, form) {
-            checked = Checked::Refused(9);
-            break;
-        }
+        known = known & is_letter(b, form, third);
         letters[i] = b;
         i += 1;
     }
+    let checked = checked_of(known);
     Letters {
         checked,
         count: i,

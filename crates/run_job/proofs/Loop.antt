@@ -17,6 +17,7 @@ use Rattle.model.specs.declared.{Entry.the-variants.Absent, Field.Field, Key.Ke
 use Rattle.model.specs.declared.{Ending.Ending, Answer.Answer, Answer.the-variants.Ended, StoredJob.StoredJob}
 use Rattle.model.specs.declared.Ending.the-variants.{Stopped, LettersUsed}
 use Rattle.model.specs.declared.Call.the-variants.{Neither, Receives, Sends}
+use Rattle.model.specs.declared.Owner.the-variants.{A, B}
 use Rattle.model.specs.declared.Level.the-variants.{Low, High}
 use Rattle.model_run.proofs.{Line.bytes-length, Counted.Reached, Counted.reached-first, Counted.turn-reached, Turn.turn-clock, Turn.Counter, Turn.clamped}
 use Rattle.run_message.specs.Message.{Cleared}
@@ -71,10 +72,10 @@ module _ {j : StoredJob} (ok : Ready j) where
   abbrev cs : List Command
   cs = jobOf j .commands
 
-  pub begins : (out₀ : List ℕ) (low high : Execution) (message : List Field) (kinds : List ℕ) (clock : Clock) → low ≡ begun → high ≡ begun → Cleared message → clock ≡ started
-      → Kept j out₀ (record { low = low; high = high; message = message; kinds = kinds; taken = 0; bytes = 0; clock = clock }) out₀
+  pub begins : (out₀ : List ℕ) (low a b : Execution) (message : List Field) (kinds : List ℕ) (clock : Clock) → low ≡ begun → a ≡ begun → b ≡ begun → Cleared message → clock ≡ started
+      → Kept j out₀ (record { low = low; a = a; b = b; message = message; kinds = kinds; taken = 0; bytes = 0; clock = clock }) out₀
   unfolding runJobBy bytesOf stateOf initial fresh
-  begins out₀ low high message kinds clock el eh em ec =
+  begins out₀ low a b message kinds clock el ea eb em ec =
       record {
         sent = [];
         going = ap₂ (λ (s : State) (n : ℕ). run ks cs (length out₀) s (drop n (jobOf j .turns))) first at-first;
@@ -89,8 +90,8 @@ module _ {j : StoredJob} (ok : Ready j) where
       fields : (l : Level) → held (j .keys) message l ≡ replicate (length ks) Absent
       fields l = cleared-held (j .keys) message (few ok .keys) em l ∙ ap (λ (n : ℕ). replicate n Absent) (sym (keys-count ok))
 
-      first : stateOf j [] (record { low = low; high = high; message = message; kinds = kinds; taken = 0; bytes = 0; clock = clock }) ≡ initial ks (jobOf j .messages)
-      first = rw (el, eh, ec, fields Low, fields High)
+      first : stateOf j [] (record { low = low; a = a; b = b; message = message; kinds = kinds; taken = 0; bytes = 0; clock = clock }) ≡ initial ks (jobOf j .messages)
+      first = rw (el, ea, eb, ec, fields Low, fields (High A), fields (High B))
 
   module _ {out₀ : List ℕ} {h : Held} {out : List ℕ} (k : Kept j out₀ h out) where
     abbrev here : State

@@ -17,6 +17,7 @@ use Rattle.model_run.specs.State as State
 use Rattle.model.specs.declared.{Entry.Entry, Entry.the-variants.Absent, Effect.Effect, Field.Field, Key.Key, Command.Command, Call.Call, Level.Level, Execution.Execution}
 use Rattle.model.specs.declared.{Clock.Clock, MessageLine.MessageLine, StoredJob.StoredJob}
 use Rattle.model.specs.declared.Call.the-variants.{Neither, Receives, Sends}
+use Rattle.model.specs.declared.Owner.the-variants.{A, B}
 use Rattle.model.specs.declared.Level.the-variants.{Low, High}
 use Rattle.model_run.proofs.{Levels.leads-not-follows}
 use Rattle.model.proofs.{Stored.map-more, Stored.map-at}
@@ -65,7 +66,8 @@ module _ {j : StoredJob} (ok : Ready j) (sent : List Sent) (h : Held) where
   pub process-is : (l : Level) → process l here ≡ processOf (j .keys) h l
   unfolding stateOf State.at
   process-is Low = refl
-  process-is High = refl
+  process-is (High A) = refl
+  process-is (High B) = refl
 
   -- a turn that sends nothing
   still : (l : Level) (h′ : Held) (m : List ℕ) → turn ks cs l here ≡ stateOf j sent h′ → Turned j l sent h h′ m m
@@ -76,7 +78,7 @@ module _ {j : StoredJob} (ok : Ready j) (sent : List Sent) (h : Held) where
   clock-only : (l : Level) (c : Clock) → c ≡ ticked l (h .clock) → counted l here ≡ stateOf j sent (withClock c h)
   unfolding stateOf
   clock-only Low c e = ap (λ (d : Clock). stateOf j sent (withClock d h)) (sym e)
-  clock-only High c e = ap (λ (d : Clock). stateOf j sent (withClock d h)) (sym e)
+  clock-only (High o) c e = ap (λ (d : Clock). stateOf j sent (withClock d h)) (sym e)
 
   -- the leader has made as many calls with another record of a level's execution
   abbrev SameCalls : Level → Execution → Type 0
@@ -85,7 +87,8 @@ module _ {j : StoredJob} (ok : Ready j) (sent : List Sent) (h : Held) where
   -- where a command of the leader is no call, and whatever another's is
   calls-kept : (l : Level) (k : Call) → (role l ≡ leads → k ≡ Neither) → (y : Execution) → y .calls ≡ recordOf l h .calls + callsBy k → SameCalls l y
   calls-kept Low k none y e = e ∙ ap (λ (i : Call). h .low .calls + callsBy i) (none refl) ∙ add-zero (h .low .calls)
-  calls-kept High k none y e = refl
+  calls-kept (High A) k none y e = refl
+  calls-kept (High B) k none y e = refl
 
   -- a level's own field at a key changed, and its record
   abbrev changed : Level → Execution → ℕ → Entry → State
@@ -96,12 +99,19 @@ module _ {j : StoredJob} (ok : Ready j) (sent : List Sent) (h : Held) where
   unfolding stateOf State.put
   changed-is-held Low y k f c e below ef ec same =
       let own = held-set (j .keys) (h .message) Low k f below ∙ ap (λ (g : Field). set (held (j .keys) (h .message) Low) k (side Low g)) ef in
-      let other = held-same (j .keys) (h .message) High k f absentField (ap (side High) ef) in
-      rw (own, other, ec, same)
-  changed-is-held High y k f c e below ef ec same =
-      let own = held-set (j .keys) (h .message) High k f below ∙ ap (λ (g : Field). set (held (j .keys) (h .message) High) k (side High g)) ef in
-      let other = held-same (j .keys) (h .message) Low k f absentField (ap (side Low) ef) in
-      rw (own, other, ec)
+      let first = held-same (j .keys) (h .message) (High A) k f absentField (ap (side (High A)) ef) in
+      let second = held-same (j .keys) (h .message) (High B) k f absentField (ap (side (High B)) ef) in
+      rw (own, first, second, ec, same)
+  changed-is-held (High A) y k f c e below ef ec same =
+      let own = held-set (j .keys) (h .message) (High A) k f below ∙ ap (λ (g : Field). set (held (j .keys) (h .message) (High A)) k (side (High A) g)) ef in
+      let low = held-same (j .keys) (h .message) Low k f absentField (ap (side Low) ef) in
+      let other = held-same (j .keys) (h .message) (High B) k f absentField (ap (side (High B)) ef) in
+      rw (own, low, other, ec)
+  changed-is-held (High B) y k f c e below ef ec same =
+      let own = held-set (j .keys) (h .message) (High B) k f below ∙ ap (λ (g : Field). set (held (j .keys) (h .message) (High B)) k (side (High B) g)) ef in
+      let low = held-same (j .keys) (h .message) Low k f absentField (ap (side Low) ef) in
+      let other = held-same (j .keys) (h .message) (High A) k f absentField (ap (side (High A)) ef) in
+      rw (own, low, other, ec)
 
   module _ (l : Level) where
     abbrev x : Execution
@@ -238,7 +248,7 @@ module _ {j : StoredJob} (ok : Ready j) (sent : List Sent) (h : Held) where
     unfolding stateOf receive State.noted takes State.each State.put State.at refill
     receive-turn b eb is i d ei m′ em n en m =
         let fields : (l : Level) → received ks (drop (h .taken) (jobOf j .messages)) l ≡ held (j .keys) m′ l = λ l. sym (em l ∙ received-is ok l (h .taken) i d ei) in
-        still Low _ m (turn-receive ks cs here (call-here Low live ∙ is) ∙ rw (fields Low, fields High, took n en, ← kind-more b Receives eb, ← ec, ← called-is next enext))
+        still Low _ m (turn-receive ks cs here (call-here Low live ∙ is) ∙ rw (fields Low, fields (High A), fields (High B), took n en, ← kind-more b Receives eb, ← ec, ← called-is next enext))
 
     pub send-turn : (b : ℕ) → kindOf b ≡ Sends → callOf (commandOf Low .op) ≡ Sends → (n : ℕ) → n ≡ 10 + 12 * j .keys
         → (m m′ : List ℕ) → m′ ≡ placed m (h .bytes) (lineBytes (lineOf (h .clock .positions) (columnsIn (j .keys) (j .secrets) (h .message))))

@@ -1,10 +1,11 @@
-// The run: two executions over one message, turn by turn, to an ending.
+// The run: three executions over one message, turn by turn, to an ending.
 use model::Answer;
 use model::Call;
 use model::Ending;
 use model::Execution;
 use model::LETTER_CAPACITY;
 use model::Level;
+use model::Owner;
 use model::RECEIVED;
 use model::SENT;
 use model::StoredJob;
@@ -44,7 +45,8 @@ pub fn run_job(job: StoredJob, out: &mut [u8]) -> Answer
     let count = job.command_count;
     let line_bytes = 10 + 12 * keys;
     let mut low = Execution::begun();
-    let mut high = Execution::begun();
+    let mut a = Execution::begun();
+    let mut b = Execution::begun();
     let mut message = cleared();
     // The kinds of the low calls, a byte each: there are no more of them than letters.
     let mut kinds = [0u8; LETTER_CAPACITY];
@@ -129,35 +131,66 @@ pub fn run_job(job: StoredJob, out: &mut [u8]) -> Answer
                     }
                 }
             }
-            Level::High => {
-                let p = high.place;
-                if count <= p {
-                    clock = ticked(clock, Level::High);
-                } else {
-                    let c = job.commands[p];
-                    let op = c.op;
-                    let call = call_of(op);
-                    let j = high.calls;
-                    if waits(call, made(j, low.calls, kinds[j])) {
-                        clock = ticked(clock, Level::High);
+            Level::High(owner) => match owner {
+                Owner::A => {
+                    let p = a.place;
+                    if count <= p {
+                        clock = ticked(clock, Level::High(Owner::A));
                     } else {
-                        let k = index(c.k);
-                        let f = message[k];
-                        let v = index(c.v);
-                        let w = index(c.w);
-                        let e = side(f, Level::High);
-                        let r = effect_at(c, p, high.vars[v], high.vars[w], e, high.clamped, count);
-                        let next = high.after(v, call, r);
-                        high.vars[v] = holds(next, v);
-                        high.place = next.place;
-                        high.calls = next.calls;
-                        high.clamped = next.clamped;
-                        let entry = r.entry;
-                        message[k] = with(f, Level::High, entry);
-                        clock = ticked(clock, Level::High);
+                        let c = job.commands[p];
+                        let op = c.op;
+                        let call = call_of(op);
+                        let j = a.calls;
+                        if waits(call, made(j, low.calls, kinds[j])) {
+                            clock = ticked(clock, Level::High(Owner::A));
+                        } else {
+                            let k = index(c.k);
+                            let f = message[k];
+                            let v = index(c.v);
+                            let w = index(c.w);
+                            let e = side(f, Level::High(Owner::A));
+                            let r = effect_at(c, p, a.vars[v], a.vars[w], e, a.clamped, count);
+                            let next = a.after(v, call, r);
+                            a.vars[v] = holds(next, v);
+                            a.place = next.place;
+                            a.calls = next.calls;
+                            a.clamped = next.clamped;
+                            let entry = r.entry;
+                            message[k] = with(f, Level::High(Owner::A), entry);
+                            clock = ticked(clock, Level::High(Owner::A));
+                        }
                     }
                 }
-            }
+                Owner::B => {
+                    let p = b.place;
+                    if count <= p {
+                        clock = ticked(clock, Level::High(Owner::B));
+                    } else {
+                        let c = job.commands[p];
+                        let op = c.op;
+                        let call = call_of(op);
+                        let j = b.calls;
+                        if waits(call, made(j, low.calls, kinds[j])) {
+                            clock = ticked(clock, Level::High(Owner::B));
+                        } else {
+                            let k = index(c.k);
+                            let f = message[k];
+                            let v = index(c.v);
+                            let w = index(c.w);
+                            let e = side(f, Level::High(Owner::B));
+                            let r = effect_at(c, p, b.vars[v], b.vars[w], e, b.clamped, count);
+                            let next = b.after(v, call, r);
+                            b.vars[v] = holds(next, v);
+                            b.place = next.place;
+                            b.calls = next.calls;
+                            b.clamped = next.clamped;
+                            let entry = r.entry;
+                            message[k] = with(f, Level::High(Owner::B), entry);
+                            clock = ticked(clock, Level::High(Owner::B));
+                        }
+                    }
+                }
+            },
         }
     }
 }

@@ -1,59 +1,72 @@
 -- The fields that are filled already, at each level, are the first of those that the model fills.
-use mathlib.Core.Path.{_≡_, refl, sym, ap, ap₂, _∙_}
+use mathlib.Core.Path.{_≡_, refl, sym, ap, ap₂, subst, _∙_}
 use mathlib.Core.Bool.{Bool, true, false, cond}
 use mathlib.Core.List.{List, [], _∷_, _++_, map}
 use Prim.Native.Nat.{ℕ, zero, suc, _+_, _≤_, _<_}
 use native.Mathlib.{Omega.arith, Nat.le-of-suc-le-suc, Nat.not-suc-le-zero, Numerals.add-one}
-use lib.{ListN.length, ListN.getD, ListN.take, ListN.drop, ListN.set, ListN.replicate, ListN.length-map, ListN.length-replicate, ListN.getD-replicate, Seq.take-suc}
+use lib.{IntN.ℤ, ListN.length, ListN.getD, ListN.take, ListN.drop, ListN.set, ListN.replicate, ListN.length-map, ListN.length-replicate, ListN.getD-replicate, Seq.take-suc}
 use lib.{Seq.take-suc-set, Seq.take-all, Seq.map-set-same}
 use Rattle.model.specs.{Stored.keyCapacity, Stored.firstOf, Stored.keyIn, Stored.entryIn, Stored.keysIn, Stored.side, Stored.held, Stored.openSlot, Stored.absentSlot}
 use Rattle.model.specs.{Stored.absentField}
 use Rattle.model_run.specs.{Message.shown, Message.fill}
-use Rattle.run_message.specs.Message.{fieldOf, receivedBy, ReceivedTo, Cleared}
+use Rattle.model_run.proofs.Message.{fill-length, fill-at}
+use Rattle.run_message.specs.Message.{fieldOf, ownerOf, receivedBy, ReceivedTo, Cleared}
 use Rattle.model.proofs.Stored.{map-set, first-set, first-same, first-at, first-count}
 use Rattle.model.specs.declared.{Entry.Entry, Field.Field, Key.Key, Level.Level, KeySlot.KeySlot, EntrySlot.EntrySlot}
 use Rattle.model.specs.declared.Entry.the-variants.{Absent, Number}
 use Rattle.model.specs.declared.Key.the-variants.{Open, Secret}
+use Rattle.model.specs.declared.Owner.{Owner}
+use Rattle.model.specs.declared.Owner.the-variants.{A, B}
 use Rattle.model.specs.declared.Level.the-variants.{Low, High}
-
-fill-length : (l : Level) (ks : List Key) (es : List Entry) → length (fill l ks es) ≡ length ks
-unfolding fill
-fill-length l [] es = refl
-fill-length l (k ∷ ks) es = ap suc (fill-length l ks (drop 1 es))
-
-getD-tail : {A : Type 0} (s : List A) (k : ℕ) (d : A) → getD (drop 1 s) k d ≡ getD s (suc k) d
-getD-tail [] k d = refl
-getD-tail (x ∷ s) k d = refl
-
-fill-at : (l : Level) (ks : List Key) (es : List Entry) (k : ℕ) → k < length ks → getD (fill l ks es) k Absent ≡ shown l (getD ks k Open) (getD es k Absent)
-unfolding fill
-fill-at l [] es k h = absurd (not-suc-le-zero h)
-fill-at l (x ∷ ks) es zero h = refl
-fill-at l (x ∷ ks) es (suc k) h = fill-at l ks (drop 1 es) k (le-of-suc-le-suc h) ∙ ap (shown l (getD ks k Open)) (getD-tail es k Absent)
 
 side-field : (l : Level) (k : Key) (e : Entry) → side l (fieldOf k e) ≡ shown l k e
 side-field Low k e = refl
-side-field High k e = refl
+side-field (High A) k e = refl
+side-field (High B) k e = refl
 
 absent-side : (l : Level) → side l absentField ≡ Absent
 absent-side Low = refl
-absent-side High = refl
+absent-side (High A) = refl
+absent-side (High B) = refl
 
--- the two cases of a key
-pub field-open : (e : Entry) → record { low = e; high = e } ≡ fieldOf Open e
-unfolding shown
-field-open e = refl
+abbrev isFirst : Owner → Type 0
+isFirst A = Unit {0}
+isFirst B = ⊥
 
-pub field-secret : (d : _) (e : Entry) → record { low = Number d; high = e } ≡ fieldOf (Secret d) e
+-- a key's fields by its owner: the others' are all the low one's
+pub field-a : (k : Key) (e o : Entry) → o ≡ shown Low k e → ownerOf k ≡ A → record { low = o; a = e; b = o } ≡ fieldOf k e
 unfolding shown
-field-secret d e = refl
+field-a Open e o h f = ap (λ (x : Entry). record { low = x; a = e; b = x }) h
+field-a (Secret A d) e o h f = ap (λ (x : Entry). record { low = x; a = e; b = x }) h
+field-a (Secret B d) e o h f = absurd (subst isFirst (sym f) tt)
+
+pub field-b : (k : Key) (e o : Entry) → o ≡ shown Low k e → ownerOf k ≡ B → record { low = o; a = o; b = e } ≡ fieldOf k e
+unfolding shown
+field-b Open e o h f = absurd (subst isFirst f tt)
+field-b (Secret A d) e o h f = absurd (subst isFirst f tt)
+field-b (Secret B d) e o h f = ap (λ (x : Entry). record { low = x; a = x; b = e }) h
+
+-- what all but the owner are shown
+pub hidden-open : (k : Key) (e : Entry) → k ≡ Open → e ≡ shown Low k e
+unfolding shown
+hidden-open Open e h = refl
+hidden-open (Secret o d) e h = absurd (subst isOpen (sym h) tt)
+  where
+    isOpen : Key → Type 0
+    isOpen Open = Unit {0}
+    isOpen (Secret o d) = ⊥
+
+pub hidden-secret : (k : Key) (e : Entry) (o : Owner) (d : ℤ) → k ≡ Secret o d → Number d ≡ shown Low k e
+unfolding shown
+hidden-secret k e o d h = sym (ap (λ (x : Key). shown Low x e) h)
 
 -- ---- No line left
 
 pub cleared-held : (n : ℕ) (m : List Field) → n ≤ keyCapacity → Cleared m → (l : Level) → held n m l ≡ replicate n Absent
 unfolding held
 cleared-held n m h e Low = rw e (first-same (side Low) n keyCapacity absentField h)
-cleared-held n m h e High = rw e (first-same (side High) n keyCapacity absentField h)
+cleared-held n m h e (High A) = rw e (first-same (side (High A)) n keyCapacity absentField h)
+cleared-held n m h e (High B) = rw e (first-same (side (High B)) n keyCapacity absentField h)
 
 module _ (n : ℕ) (ss : List KeySlot) (ts : List EntrySlot) (keys : n ≤ length ss) where
   abbrev ks : List Key

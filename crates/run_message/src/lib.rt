@@ -6,24 +6,50 @@ use model::KEY_CAPACITY;
 use model::Key;
 use model::KeySlot;
 use model::Level;
+use model::Owner;
 ghost use mathlib.Core.Path.{_≡_};
 ghost use mathlib.Core.Bool.{cond};
 ghost use Rattle.model.specs.Stored.{absentField, side as Field·side, withSide};
-ghost use Rattle.run_message.specs.Message.{fieldOf, Cleared};
+ghost use Rattle.model_run.specs.Message.{shown};
+ghost use Rattle.model.specs.declared.Level.the-variants.{Low};
+ghost use Rattle.run_message.specs.Message.{fieldOf, ownerOf, Cleared};
 
-// A key's fields where the line has the entry e at it: a secret key's low field is the dummy, whether or not e is present.
+// What all but a key's owner are shown of the entry e at it: the dummy of a secret key, whether or not e is present.
+fn hidden(key: Key, e: Entry) -> Entry
+    ensures { λ r. ⌜ r ≡ shown Low key e ⌝ }
+{
+    match key {
+        Key::Open => e,
+        Key::Secret(_, d) => Entry::Number(d),
+    }
+}
+
+// The owner of a key; an open one's fields are all the same.
+fn owner_of(key: Key) -> Owner
+    ensures { λ r. ⌜ r ≡ ownerOf key ⌝ }
+{
+    match key {
+        Key::Open => Owner::A,
+        Key::Secret(owner, _) => owner,
+    }
+}
+
+// A key's fields where the line has the entry e at it. Written so that the compiler makes of a receive with no line left a loop of its own.
 fn field(key: Key, e: Entry) -> Field
     ensures { λ r. ⌜ r ≡ fieldOf key e ⌝ }
 {
-    match key {
-        Key::Open => Field { low: e, high: e },
-        Key::Secret(d) => {
-            let dummy = Entry::Number(d);
-            Field {
-                low: dummy,
-                high: e,
-            }
-        }
+    let other = hidden(key, e);
+    match owner_of(key) {
+        Owner::A => Field {
+            low: other,
+            a: e,
+            b: other,
+        },
+        Owner::B => Field {
+            low: other,
+            a: other,
+            b: e,
+        },
     }
 }
 
@@ -38,7 +64,8 @@ pub fn received(slot: KeySlot, more: bool, entry: EntrySlot) -> Field
     }
     Field {
         low: Entry::Absent,
-        high: Entry::Absent,
+        a: Entry::Absent,
+        b: Entry::Absent,
     }
 }
 
@@ -48,7 +75,8 @@ pub fn cleared() -> [Field; KEY_CAPACITY]
 {
     let none = Field {
         low: Entry::Absent,
-        high: Entry::Absent,
+        a: Entry::Absent,
+        b: Entry::Absent,
     };
     [none; KEY_CAPACITY]
 }
@@ -58,10 +86,14 @@ pub fn side(f: Field, level: Level) -> Entry
     ensures { λ r. ⌜ r ≡ Field·side level f ⌝ }
 {
     let low = f.low;
-    let high = f.high;
+    let a = f.a;
+    let b = f.b;
     match level {
         Level::Low => low,
-        Level::High => high,
+        Level::High(owner) => match owner {
+            Owner::A => a,
+            Owner::B => b,
+        },
     }
 }
 
@@ -70,9 +102,13 @@ pub fn with(f: Field, level: Level, e: Entry) -> Field
     ensures { λ r. ⌜ r ≡ withSide level e f ⌝ }
 {
     let low = f.low;
-    let high = f.high;
+    let a = f.a;
+    let b = f.b;
     match level {
-        Level::Low => Field { low: e, high },
-        Level::High => Field { low, high: e },
+        Level::Low => Field { low: e, a, b },
+        Level::High(owner) => match owner {
+            Owner::A => Field { low, a: e, b },
+            Owner::B => Field { low, a, b: e },
+        },
     }
 }

@@ -5,6 +5,7 @@ use model::Clock;
 use model::Counts;
 use model::Ending;
 use model::Level;
+use model::Owner;
 use model::RECEIVED;
 ghost use mathlib.Core.Path.{_≡_};
 ghost use mathlib.Core.Bool.{cond};
@@ -22,7 +23,10 @@ pub fn level_of(letter: u8) -> Level
     if letter == b'L' {
         return Level::Low;
     }
-    Level::High
+    if letter == b'B' {
+        return Level::High(Owner::B);
+    }
+    Level::High(Owner::A)
 }
 
 // A place that can be read: i itself below n, else 0.
@@ -84,7 +88,7 @@ fn low_steps(level: Level) -> usize
 {
     match level {
         Level::Low => 1,
-        Level::High => 0,
+        Level::High(_) => 0,
     }
 }
 

@@ -61,7 +61,7 @@ saved r t k e =
       sound = s;
       stored = k .stored e;
       text = ap sheetText j;
-      short = omega (arith, Sheet.short (jobOf (t .job)) s);
+      short = omega (arith, Sheet.most-of-all (jobOf (t .job)) s);
     }
 
 -- ---- A sheet that is opened, and saved again

@@ -7,7 +7,9 @@ use lib.{ListN.length, ListN.getD, ListN.drop, ListN.set, ListN.replicate, ListN
 use Rattle.model.specs.{Text.lineFeed, Text.space, Text.dot, Placed.placed, Stored.keyIn, Stored.keysIn, Stored.side, Stored.held, Stored.openSlot, Stored.absentField}
 use Rattle.model_run.specs.{Message.source, Message.columns, Line.cell, Line.cells, Line.heading, Line.lineBytes}
 use Rattle.model.specs.declared.{Entry.Entry, Entry.the-variants.Absent, Field.Field, Key.Key, Key.the-variants.Open, Level.Level, KeySlot.KeySlot}
+use Rattle.model.specs.declared.Owner.the-variants.{A, B}
 use Rattle.model.specs.declared.Level.the-variants.{Low, High}
+use Rattle.model_run.proofs.Message as Message
 use Rattle.model_run.proofs.{Line.cell-length, Line.cells-length, Line.heading-length}
 use Rattle.model.proofs.{Stored.first-at, Stored.first-count}
 use Rattle.model.proofs.Placed.{placed-append, placed-nil, placed-cons, placed-next}
@@ -24,34 +26,23 @@ dots-end out p n none = ap (λ (m : ℕ). placed out p (replicate m dot)) none �
 
 -- ---- The columns
 
-pub columns-length : (i : ℕ) (ks : List Key) (f : Level → List Entry) → length (columns i ks f) ≡ length ks
-unfolding columns
-columns-length i [] f = refl
-columns-length i (k ∷ ks) f = ap suc (columns-length (suc i) ks f)
-
--- the column of a key
-column-at : (i : ℕ) (ks : List Key) (f : Level → List Entry) (k : ℕ) → k < length ks → getD (columns i ks f) k Absent ≡ getD (f (source (getD ks k Open))) (i + k) Absent
-unfolding columns
-column-at i [] f k h = absurd (not-suc-le-zero h)
-column-at i (x ∷ ks) f zero h = ap (λ (n : ℕ). getD (f (source x)) n Absent) (sym (add-zero i))
-column-at i (x ∷ ks) f (suc k) h = column-at (suc i) ks f k (le-of-suc-le-suc h) ∙ ap (λ (n : ℕ). getD (f (source (getD ks k Open))) n Absent) (omega arith)
-
 pub held-at : (n : ℕ) (m : List Field) (l : Level) (k : ℕ) → k < n → getD (held n m l) k Absent ≡ side l (getD m k absentField)
 unfolding held
 held-at n m Low k h = first-at (side Low) n m k absentField h
-held-at n m High k h = first-at (side High) n m k absentField h
+held-at n m (High A) k h = first-at (side (High A)) n m k absentField h
+held-at n m (High B) k h = first-at (side (High B)) n m k absentField h
 
 module _ (n : ℕ) (ss : List KeySlot) (m : List Field) (enough : n ≤ length ss) where
   keys-count : length (keysIn n ss) ≡ n
   keys-count = first-count keyIn n ss enough
 
   pub columns-count : length (columnsIn n ss m) ≡ n
-  columns-count = columns-length 0 (keysIn n ss) (held n m) ∙ keys-count
+  columns-count = Message.columns-length 0 (keysIn n ss) (held n m) ∙ keys-count
 
   -- the column of a key is the field of its source
   pub columns-at : (k : ℕ) → k < n → getD (columnsIn n ss m) k Absent ≡ side (source (getD ss k openSlot .key)) (getD m k absentField)
   columns-at k h =
-      column-at 0 (keysIn n ss) (held n m) k (omega (arith, keys-count))
+      Message.columns-at 0 (keysIn n ss) (held n m) k (omega (arith, keys-count))
       ∙ ap (λ (i : ℕ). getD (held n m (source (getD (keysIn n ss) k Open))) i Absent) (zero-add k)
       ∙ ap (λ (x : Key). getD (held n m (source x)) k Absent) (first-at keyIn n ss k openSlot h)
       ∙ held-at n m (source (getD ss k openSlot .key)) k h

@@ -3,6 +3,7 @@ use model::Entry;
 use model::Field;
 use model::Key;
 use model::KeySlot;
+use model::Owner;
 use write_text::magnitude;
 use write_text::spell;
 ghost use mathlib.Core.Path.{_≡_};
@@ -64,10 +65,14 @@ fn column(key: Key, f: Field) -> Entry
     ensures { λ r. ⌜ r ≡ side (source key) f ⌝ }
 {
     let low = f.low;
-    let high = f.high;
+    let a = f.a;
+    let b = f.b;
     match key {
         Key::Open => low,
-        Key::Secret(_) => high,
+        Key::Secret(owner, _) => match owner {
+            Owner::A => a,
+            Owner::B => b,
+        },
     }
 }
 

@@ -2,13 +2,14 @@
 use model::COMMAND_CAPACITY;
 use model::Command;
 use model::Entry;
-use model::FORM_NUMBER;
+use model::Form;
 use model::KEY_CAPACITY;
 use model::Key;
 use model::KeySlot;
 use model::LETTER_CAPACITY;
 use model::MESSAGE_CAPACITY;
 use model::MessageLine;
+use model::Owner;
 use model::StoredJob;
 use model_record::COMMAND_PLACES;
 use model_record::CommandRecord;
@@ -18,6 +19,8 @@ use model_record::KEY_PLACES;
 use model_record::LETTER_PLACES;
 use model_record::MESSAGE_PLACES;
 use model_record::MessageRecord;
+use model_record::OWNER_A;
+use model_record::OWNER_B;
 use model_record::SecretRecord;
 use model_sheet::letter_of;
 use pack_command::number_of;
@@ -25,13 +28,11 @@ ghost use mathlib.Core.Path.{_≡_};
 ghost use mathlib.Core.List.{map};
 ghost use Prim.Native.Nat.{_≤_};
 ghost use lib.ListN.{take};
-ghost use Rattle.model.specs.{Placed.front, Stored.keyCapacity, Stored.commandCapacity, Stored.messageCapacity, Stored.letterCapacity, Stored.Stored, Stored.jobOf};
+ghost use Rattle.model.specs.{Limits.forms, Placed.front, Stored.keyCapacity, Stored.commandCapacity, Stored.messageCapacity, Stored.letterCapacity, Stored.Stored, Stored.jobOf};
 ghost use Rattle.model.specs.Stored.{keysIn, entriesIn, levelOf};
 ghost use Rattle.model_sheet.specs.Sheet.{letterOf};
-ghost use Rattle.model_record.specs.Record.{commandRecord, messageOver, messagesOver, recordOver};
+ghost use Rattle.model_record.specs.Record.{ownerNumber, commandRecord, messageOver, messagesOver, recordOver};
 ghost use Rattle.write_record.specs.Write.{SecretsOver};
-
-const FORM: u32 = FORM_NUMBER as u32;
 
 // So many secrets, at the front of their array.
 struct Secrets {
@@ -39,13 +40,27 @@ struct Secrets {
     pub secrets: [SecretRecord; KEY_PLACES],
 }
 
+// The owner as a number, where it is named.
+fn owner_number(owner: Owner, owners: bool) -> u32
+    ensures { λ r. ⌜ r ≡ ownerNumber owners owner ⌝ }
+{
+    if !owners {
+        return 0;
+    }
+    match owner {
+        Owner::A => OWNER_A,
+        Owner::B => OWNER_B,
+    }
+}
+
 fn secrets_over(
     slots: [KeySlot; KEY_CAPACITY],
     keys: usize,
+    owners: bool,
     old: [SecretRecord; KEY_PLACES],
 ) -> Secrets
     requires { ⌜ keys ≤ keyCapacity ⌝ }
-    ensures { λ r. ⌜ SecretsOver (keysIn keys slots) old r ⌝ }
+    ensures { λ r. ⌜ SecretsOver owners (keysIn keys slots) old r ⌝ }
 {
     let mut secrets = old;
     let mut count: usize = 0;
@@ -57,11 +72,12 @@ fn secrets_over(
             Key::Open => {
                 k += 1;
             }
-            Key::Secret(dummy) => {
+            Key::Secret(owner, dummy) => {
+                let number = owner_number(owner, owners);
                 secrets[count] = SecretRecord {
                     key: k as u32,
                     dummy,
-                    owner: 0,
+                    owner: number,
                 };
                 count += 1;
                 k += 1;
@@ -158,29 +174,31 @@ fn messages_over(
 }
 
 fn letters_over(
+    form: Form,
     turns: [u8; LETTER_CAPACITY],
     count: usize,
     old: [u8; LETTER_PLACES],
 ) -> [u8; LETTER_PLACES]
     requires { ⌜ count ≤ letterCapacity ⌝ }
-    ensures { λ r. ⌜ r ≡ front old (map letterOf (map levelOf (take count turns))) ⌝ }
+    ensures { λ r. ⌜ r ≡ front old (map (letterOf form) (map levelOf (take count turns))) ⌝ }
 {
     let mut letters = old;
     let mut i: usize = 0;
     while i < count {
-        letters[i] = letter_of(turns[i]);
+        letters[i] = letter_of(form, turns[i]);
         i += 1;
     }
     letters
 }
 
 pub fn record_over(job: StoredJob, old: JobRecord) -> JobRecord
-    requires { ⌜ Stored job ⌝ }
+    requires { ⌜ Stored job × (job .form ≤ forms) ⌝ }
     ensures { λ r. ⌜ r ≡ recordOver (jobOf job) old ⌝ }
 {
+    let form = Form::of(job.form);
     let slots = job.secrets;
     let secrets_were = old.secrets;
-    let dummies = secrets_over(slots, job.keys, secrets_were);
+    let dummies = secrets_over(slots, job.keys, form.owners, secrets_were);
     let secrets = dummies.secrets;
     let stored = job.commands;
     let commands_were = old.commands;
@@ -190,9 +208,9 @@ pub fn record_over(job: StoredJob, old: JobRecord) -> JobRecord
     let messages = messages_over(lines, job.message_count, job.keys, messages_were);
     let turns = job.turns;
     let letters_were = old.letters;
-    let letters = letters_over(turns, job.turn_count, letters_were);
+    let letters = letters_over(form, turns, job.turn_count, letters_were);
     JobRecord {
-        form: FORM,
+        form: job.form as u32,
         keys: job.keys as u32,
         secret_count: dummies.count,
         secrets,

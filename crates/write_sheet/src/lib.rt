@@ -1,8 +1,10 @@
 // A job as a sheet: its lines in the order of document 01.
+use model::Form;
 use model::KEY_CAPACITY;
 use model::Key;
 use model::KeySlot;
 use model::LETTER_CAPACITY;
+use model::Owner;
 use model::StoredJob;
 use model_sheet::LONGEST_SHEET;
 use model_sheet::letter_of;
@@ -16,34 +18,72 @@ ghost use mathlib.Core.Path.{_≡_};
 ghost use mathlib.Core.List.{map};
 ghost use Prim.Native.Nat.{_<_, _≤_};
 ghost use lib.{Dec.leb, ListN.take, ListN.length};
-ghost use Rattle.model.specs.{Stored.keyCapacity, Stored.letterCapacity, Stored.keysIn, Stored.levelOf, Stored.Stored, Stored.jobOf, Accepted.Sound};
-ghost use Rattle.model_sheet.specs.Sheet.{headLines, secretLines, letterOf, turnsLines, sheetText};
+ghost use Rattle.model.specs.{Limits.forms, Stored.keyCapacity, Stored.letterCapacity, Stored.keysIn, Stored.levelOf, Stored.Stored, Stored.jobOf, Accepted.Sound};
+ghost use Rattle.model_sheet.specs.Sheet.{headLines, ownerLetter, ownerText, secretLines, letterOf, turnsLines, sheetText};
 ghost use Rattle.write_text.specs.Put.{Put, Room};
-ghost use Rattle.write_sheet.specs.Sheet.{secretText, HasRoom};
+ghost use Rattle.write_sheet.specs.Sheet.{formText, secretEnded, HasRoom};
 
-// `sheet=1` and `keys=K`
-fn put_head(out: &mut [u8], at: usize, keys: usize) -> usize
-    requires { ⌜ (keys ≤ keyCapacity) × Room (now out) at (headLines keys) ⌝ }
-    ensures { λ r. ⌜ Put (now (out .entry)) at (headLines keys) (now (out .exit)) r ⌝ }
+// `sheet=`, the number of the form, a line feed and `keys=`
+fn put_form(out: &mut [u8], at: usize, form: u64) -> usize
+    requires { ⌜ (form ≤ forms) × Room (now out) at (formText form) ⌝ }
+    ensures { λ r. ⌜ Put (now (out .entry)) at (formText form) (now (out .exit)) r ⌝ }
 {
-    let number = put_word(out, at, b"sheet=1\nkeys=");
+    let number = put_word(out, at, b"sheet=");
+    let end = put_natural(out, number, form as u32);
+    put_word(out, end, b"\nkeys=")
+}
+
+// the lines `sheet` and `keys`
+fn put_head(out: &mut [u8], at: usize, form: u64, keys: usize) -> usize
+    requires { ⌜ (form ≤ forms) × (keys ≤ keyCapacity) × Room (now out) at (headLines form keys) ⌝ }
+    ensures { λ r. ⌜ Put (now (out .entry)) at (headLines form keys) (now (out .exit)) r ⌝ }
+{
+    let number = put_form(out, at, form);
     let end = put_natural(out, number, keys as u32);
     put_byte(out, end, b'\n')
 }
 
-fn put_secret(out: &mut [u8], at: usize, k: usize, dummy: i32) -> usize
-    requires { ⌜ (k < keyCapacity) × Room (now out) at (secretText k dummy) ⌝ }
-    ensures { λ r. ⌜ Put (now (out .entry)) at (secretText k dummy) (now (out .exit)) r ⌝ }
+fn owner_letter(owner: Owner) -> u8
+    ensures { λ r. ⌜ r ≡ ownerLetter owner ⌝ }
+{
+    match owner {
+        Owner::A => b'A',
+        Owner::B => b'B',
+    }
+}
+
+// A colon and the owner, where it is named.
+fn put_owner(out: &mut [u8], at: usize, owners: bool, owner: Owner) -> usize
+    requires { ⌜ Room (now out) at (ownerText owners owner) ⌝ }
+    ensures { λ r. ⌜ Put (now (out .entry)) at (ownerText owners owner) (now (out .exit)) r ⌝ }
+{
+    if owners {
+        let letter = put_byte(out, at, b':');
+        return put_byte(out, letter, owner_letter(owner));
+    }
+    at
+}
+
+fn put_secret(out: &mut [u8], at: usize, owners: bool, k: usize, owner: Owner, dummy: i32) -> usize
+    requires { ⌜ (k < keyCapacity) × Room (now out) at (secretEnded owners k owner dummy) ⌝ }
+    ensures { λ r. ⌜ Put (now (out .entry)) at (secretEnded owners k owner dummy) (now (out .exit)) r ⌝ }
 {
     let pair = put_word(out, at, b"secret=");
     let end = put_pair(out, pair, k, dummy);
-    put_byte(out, end, b'\n')
+    let named = put_owner(out, end, owners, owner);
+    put_byte(out, named, b'\n')
 }
 
 // The lines of the secret ones among the first keys.
-fn put_secrets(out: &mut [u8], at: usize, slots: [KeySlot; KEY_CAPACITY], keys: usize) -> usize
-    requires { ⌜ (keys ≤ keyCapacity) × Room (now out) at (secretLines (keysIn keys slots)) ⌝ }
-    ensures { λ r. ⌜ Put (now (out .entry)) at (secretLines (keysIn keys slots)) (now (out .exit)) r ⌝ }
+fn put_secrets(
+    out: &mut [u8],
+    at: usize,
+    owners: bool,
+    slots: [KeySlot; KEY_CAPACITY],
+    keys: usize,
+) -> usize
+    requires { ⌜ (keys ≤ keyCapacity) × Room (now out) at (secretLines owners (keysIn keys slots)) ⌝ }
+    ensures { λ r. ⌜ Put (now (out .entry)) at (secretLines owners (keysIn keys slots)) (now (out .exit)) r ⌝ }
 {
     let mut next = at;
     let mut k: usize = 0;
@@ -54,8 +94,8 @@ fn put_secrets(out: &mut [u8], at: usize, slots: [KeySlot; KEY_CAPACITY], keys: 
             Key::Open => {
                 k += 1;
             }
-            Key::Secret(dummy) => {
-                next = put_secret(out, next, k, dummy);
+            Key::Secret(owner, dummy) => {
+                next = put_secret(out, next, owners, k, owner, dummy);
                 k += 1;
             }
         }
@@ -63,26 +103,38 @@ fn put_secrets(out: &mut [u8], at: usize, slots: [KeySlot; KEY_CAPACITY], keys: 
     next
 }
 
-fn put_letters(out: &mut [u8], at: usize, turns: [u8; LETTER_CAPACITY], count: usize) -> usize
-    requires { ⌜ (count ≤ letterCapacity) × Room (now out) at (map letterOf (map levelOf (take count turns))) ⌝ }
-    ensures { λ r. ⌜ Put (now (out .entry)) at (map letterOf (map levelOf (take count turns))) (now (out .exit)) r ⌝ }
+fn put_letters(
+    out: &mut [u8],
+    at: usize,
+    form: Form,
+    turns: [u8; LETTER_CAPACITY],
+    count: usize,
+) -> usize
+    requires { ⌜ (count ≤ letterCapacity) × Room (now out) at (map (letterOf form) (map levelOf (take count turns))) ⌝ }
+    ensures { λ r. ⌜ Put (now (out .entry)) at (map (letterOf form) (map levelOf (take count turns))) (now (out .exit)) r ⌝ }
 {
     let mut next = at;
     let mut i: usize = 0;
     while i < count {
-        next = put_byte(out, next, letter_of(turns[i]));
+        next = put_byte(out, next, letter_of(form, turns[i]));
         i += 1;
     }
     next
 }
 
 // `turns=` and the letters
-fn put_turns(out: &mut [u8], at: usize, turns: [u8; LETTER_CAPACITY], count: usize) -> usize
-    requires { ⌜ (count ≤ letterCapacity) × Room (now out) at (turnsLines (map levelOf (take count turns))) ⌝ }
-    ensures { λ r. ⌜ Put (now (out .entry)) at (turnsLines (map levelOf (take count turns))) (now (out .exit)) r ⌝ }
+fn put_turns(
+    out: &mut [u8],
+    at: usize,
+    form: Form,
+    turns: [u8; LETTER_CAPACITY],
+    count: usize,
+) -> usize
+    requires { ⌜ (count ≤ letterCapacity) × Room (now out) at (turnsLines form (map levelOf (take count turns))) ⌝ }
+    ensures { λ r. ⌜ Put (now (out .entry)) at (turnsLines form (map levelOf (take count turns))) (now (out .exit)) r ⌝ }
 {
     let letters = put_word(out, at, b"turns=");
-    let end = put_letters(out, letters, turns, count);
+    let end = put_letters(out, letters, form, turns, count);
     put_byte(out, end, b'\n')
 }
 
@@ -91,16 +143,17 @@ pub fn put_sheet(out: &mut [u8], job: StoredJob) -> usize
     requires { ⌜ HasRoom (now out) job ⌝ }
     ensures { λ r. ⌜ Put (now (out .entry)) 0 (sheetText (jobOf job)) (now (out .exit)) r ⌝ }
 {
+    let form = Form::of(job.form);
     let keys = job.keys;
     let slots = job.secrets;
     let commands = job.commands;
     let messages = job.messages;
     let turns = job.turns;
-    let behind_head = put_head(out, 0, keys);
-    let behind_secrets = put_secrets(out, behind_head, slots, keys);
+    let behind_head = put_head(out, 0, job.form, keys);
+    let behind_secrets = put_secrets(out, behind_head, form.owners, slots, keys);
     let behind_program = put_commands(out, behind_secrets, commands, job.command_count);
     let behind_messages = put_messages(out, behind_program, messages, job.message_count, keys);
-    put_turns(out, behind_messages, turns, job.turn_count)
+    put_turns(out, behind_messages, form, turns, job.turn_count)
 }
 
 // Whether so many bytes are enough for the sheet. As many as the longest has are enough for every one, so that only for fewer it is counted, in no memory at all.

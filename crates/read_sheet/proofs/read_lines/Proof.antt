@@ -15,14 +15,14 @@ use Rattle.read_sheet.proofs.read_lines.Statement.{statement}
 use Rattle.read_sheet.proofs.read_lines.Tie as tie
 
 -- the points of the code: the first line, the choice of the form, the keys, and the secrets
-abbrev firstOf : tie.After-form-of → tie.After-phase2
+abbrev firstOf : tie.After-of → tie.After-phase2
 firstOf c = c .before .before
 
-abbrev choiceOf : tie.After-number-line2 → tie.After-form-of
+abbrev choiceOf : tie.After-number-line2 → tie.After-of
 choiceOf c = c .before .before .before
 
 abbrev form : tie.After-number-line2 → Form
-form c = choiceOf c .form-of .result
+form c = choiceOf c .of .result
 
 abbrev keysOf : tie.After-phase4 → tie.After-number-line2
 keysOf c = c .before .before
@@ -52,8 +52,8 @@ numbers₁ c =
     omega (arith, c .before .before .before .before .before .pre)
 
 -- the form that the first line chose can be read, and the keys by it
-fits : (c : tie.After-form-of) → Fits (c .form-of .result)
-fits c = subst⁻¹ Fits (c .form-of .ensures) (every-form-fits (firstOf c .before .before .number-line .result .value))
+fits : (c : tie.After-of) → Fits (c .of .result)
+fits c = subst⁻¹ Fits (c .of .ensures) (every-form-fits (firstOf c .before .before .number-line .result .value))
 
 numbers₂ : (c : tie.After-phase4) → c .phase4 .given .0 .0 + length (rest₂ c) ≤ mostBytes + 1
 numbers₂ c =
@@ -74,7 +74,7 @@ returns-2 c =
     let f = choiceOf k in
     let m = firstOf f in
     answers
-    (stop-keys (first-phase (m .before .before .number-line .ensures)) (m .phase2 .given .1) (rest (sheet m) _) _ (f .form-of .ensures) (keys-phase _ (k .number-line2 .ensures)) (c .before .before .phase3 .given .1))
+    (stop-keys (first-phase (m .before .before .number-line .ensures)) (m .phase2 .given .1) (rest (sheet m) _) _ (f .of .ensures) (keys-phase _ (k .number-line2 .ensures)) (c .before .before .phase3 .given .1))
     (c .refuse2 .ensures)
 
 returns-3 : tie.Need-returns-3
@@ -84,7 +84,7 @@ returns-3 c =
     let f = choiceOf (keysOf n) in
     let m = firstOf f in
     answers
-    (stop-secrets (first-phase (m .before .before .number-line .ensures)) (m .phase2 .given .1) (rest (sheet m) _) _ (f .form-of .ensures) (keys-phase _ (keysOf n .number-line2 .ensures)) (n .phase4 .given .1)
+    (stop-secrets (first-phase (m .before .before .number-line .ensures)) (m .phase2 .given .1) (rest (sheet m) _) _ (f .of .ensures) (keys-phase _ (keysOf n .number-line2 .ensures)) (n .phase4 .given .1)
     (rest (rest₁ m) _) (d .read-secrets .ensures .read) (c .before .before .phase5 .given .1))
     (c .refuse3 .ensures)
 
@@ -97,7 +97,7 @@ returns-4 c =
     let f = choiceOf (keysOf n) in
     let m = firstOf f in
     answers
-    (heads-read (first-phase (m .before .before .number-line .ensures)) (m .phase2 .given .1) (rest (sheet m) _) _ (f .form-of .ensures) (keys-phase _ (keysOf n .number-line2 .ensures)) (n .phase4 .given .1)
+    (heads-read (first-phase (m .before .before .number-line .ensures)) (m .phase2 .given .1) (rest (sheet m) _) _ (f .of .ensures) (keys-phase _ (keysOf n .number-line2 .ensures)) (n .phase4 .given .1)
     (rest (rest₁ m) _) (d .read-secrets .ensures .read) (k .phase6 .given .1) (rest (rest₂ n) _))
     (c .read-body .ensures)
 

@@ -14,6 +14,8 @@ use Rattle.model.specs.declared.{Call.Call, Level.Level, Execution.Execution, C
 use Rattle.model.specs.declared.{Answer.the-variants.Ended}
 use Rattle.model.specs.declared.Ending.the-variants.{Stopped, NoRoom}
 use Rattle.model.specs.declared.Call.the-variants.{Receives, Sends}
+use Rattle.model.specs.declared.Owner.{Owner}
+use Rattle.model.specs.declared.Owner.the-variants.{A, B}
 use Rattle.model.specs.declared.Level.the-variants.{Low, High}
 use Rattle.model_run.proofs.Turn.{calls, clamped}
 use Rattle.model.proofs.Ready.{Ready, few}
@@ -30,35 +32,35 @@ use Rattle.run_job.proofs.run_job.Statement.{statement}
 use Rattle.run_job.proofs.run_job.Tie as tie
 
 abbrev Inv-loop2 : tie.InvT-loop2
-Inv-loop2 out job keys count line-bytes low high message₀ kinds clock bytes taken at p t line more k₀ message k = Filling job line more message k
+Inv-loop2 out job keys count line-bytes low a b message₀ kinds clock bytes taken at p t line more k₀ message k = Filling job line more message k
 
 abbrev μ-loop2 : tie.MeasureT-loop2
-μ-loop2 out job keys count line-bytes low high message₀ kinds clock bytes taken at p t line more k₀ message k = keys - k
+μ-loop2 out job keys count line-bytes low a b message₀ kinds clock bytes taken at p t line more k₀ message k = keys - k
 
 abbrev Inv-loop3 : tie.InvT-loop3
-Inv-loop3 out₀ job keys count line-bytes low high message kinds clock bytes taken at p k₀ out k = Writing job message bytes out₀ out k
+Inv-loop3 out₀ job keys count line-bytes low a b message kinds clock bytes taken at p k₀ out k = Writing job message bytes out₀ out k
 
 abbrev μ-loop3 : tie.MeasureT-loop3
-μ-loop3 out₀ job keys count line-bytes low high message kinds clock bytes taken at p k₀ out k = keys - k
+μ-loop3 out₀ job keys count line-bytes low a b message kinds clock bytes taken at p k₀ out k = keys - k
 
 abbrev Inv-loop : tie.InvT-loop
-Inv-loop out₀ job keys count line-bytes low₀ high₀ message₀ kinds₀ clock₀ bytes₀ taken₀ out low high message kinds clock bytes taken =
-    Inv job out₀ (record { low = low; high = high; message = message; kinds = kinds; taken = taken; bytes = bytes; clock = clock }) out
+Inv-loop out₀ job keys count line-bytes low₀ a₀ b₀ message₀ kinds₀ clock₀ bytes₀ taken₀ out low a b message kinds clock bytes taken =
+    Inv job out₀ (record { low = low; a = a; b = b; message = message; kinds = kinds; taken = taken; bytes = bytes; clock = clock }) out
 
 abbrev μ-loop : tie.MeasureT-loop
-μ-loop out₀ job keys count line-bytes low₀ high₀ message₀ kinds₀ clock₀ bytes₀ taken₀ out low high message kinds clock bytes taken =
+μ-loop out₀ job keys count line-bytes low₀ a₀ b₀ message₀ kinds₀ clock₀ bytes₀ taken₀ out low a b message kinds clock bytes taken =
     job .«turn_count» - clock .positions
 
 -- ---- The points of the code: each from the next one that an answer names. A new statement moves one of these lines.
 
 abbrev callerOf : tie.At-loop Inv-loop2 μ-loop2 Inv-loop3 μ-loop3 Inv-loop μ-loop → tie.Start Inv-loop2 μ-loop2 Inv-loop3 μ-loop3 Inv-loop μ-loop
-callerOf c = c .before .before .before .before .before .before
+callerOf c = c .before .before .before .before .before .before .before
 
 abbrev jobOf : tie.At-loop Inv-loop2 μ-loop2 Inv-loop3 μ-loop3 Inv-loop μ-loop → StoredJob
 jobOf c = callerOf c .args .t1
 
 abbrev heldAt : tie.At-loop Inv-loop2 μ-loop2 Inv-loop3 μ-loop3 Inv-loop μ-loop → Held
-heldAt c = record { low = c .loop .low; high = c .loop .high; message = c .loop .message; kinds = c .loop .kinds; taken = c .loop .taken; bytes = c .loop .bytes; clock = c .loop .clock }
+heldAt c = record { low = c .loop .low; a = c .loop .a; b = c .loop .b; message = c .loop .message; kinds = c .loop .kinds; taken = c .loop .taken; bytes = c .loop .bytes; clock = c .loop .clock }
 
 abbrev loopOf : tie.After-level-of Inv-loop2 μ-loop2 Inv-loop3 μ-loop3 Inv-loop μ-loop → tie.At-loop Inv-loop2 μ-loop2 Inv-loop3 μ-loop3 Inv-loop μ-loop
 loopOf c = c .before .before .before
@@ -69,11 +71,12 @@ ready c = callerOf c .pre
 loop-holds : tie.Need-loop-holds Inv-loop2 μ-loop2 Inv-loop3 μ-loop3 Inv-loop μ-loop
 loop-holds c =
     let cleared = c .before in
-    let high = cleared .before in
-    let low = high .before in
+    let b = cleared .before in
+    let a = b .before in
+    let low = a .before in
     let start = low .before .before in
     record {
-      kept = begins (start .pre) _ _ _ _ _ _ (low .begun .ensures) (high .begun2 .ensures) (cleared .cleared .ensures) (c .started .ensures);
+      kept = begins (start .pre) _ _ _ _ _ _ _ (low .begun .ensures) (a .begun2 .ensures) (b .begun3 .ensures) (cleared .cleared .ensures) (c .started .ensures);
       full = ap length (cleared .cleared .ensures);
       noted = length-replicate {A = ℕ} letterCapacity 0;
       live = omega (arith, ap (λ (x : Execution). x .place) (low .begun .ensures), few (start .pre) .some);
@@ -322,25 +325,25 @@ after-command c =
     _ (f .before .before .before .side .ensures) _ (f .effect-at .ensures) _ (sym call)
     _ (n .after .ensures) _ (held-low z ∙ z .holds .ensures) _ (w .with .ensures) _ (c .ticked3 .ensures) _)
 
--- ---- High turns
+-- ---- Turns of A
 
-abbrev highLetter : tie.After-enum-told5 Inv-loop2 μ-loop2 Inv-loop3 μ-loop3 Inv-loop μ-loop → tie.After-level-of Inv-loop2 μ-loop2 Inv-loop3 μ-loop3 Inv-loop μ-loop
-highLetter c = c .before .before
+abbrev letter-a : tie.After-enum-told5 Inv-loop2 μ-loop2 Inv-loop3 μ-loop3 Inv-loop μ-loop → tie.After-level-of Inv-loop2 μ-loop2 Inv-loop3 μ-loop3 Inv-loop μ-loop
+letter-a c = c .before .before .before .before .before
 
-abbrev highLoop : tie.After-enum-told5 Inv-loop2 μ-loop2 Inv-loop3 μ-loop3 Inv-loop μ-loop → tie.At-loop Inv-loop2 μ-loop2 Inv-loop3 μ-loop3 Inv-loop μ-loop
-highLoop c = loopOf (highLetter c)
+abbrev loop-a : tie.After-enum-told5 Inv-loop2 μ-loop2 Inv-loop3 μ-loop3 Inv-loop μ-loop → tie.At-loop Inv-loop2 μ-loop2 Inv-loop3 μ-loop3 Inv-loop μ-loop
+loop-a c = loopOf (letter-a c)
 
 module _ (c : tie.After-enum-told5 Inv-loop2 μ-loop2 Inv-loop3 μ-loop3 Inv-loop μ-loop) where
-  abbrev high : tie.At-loop Inv-loop2 μ-loop2 Inv-loop3 μ-loop3 Inv-loop μ-loop
-  high = highLoop c
+  abbrev here-a : tie.At-loop Inv-loop2 μ-loop2 Inv-loop3 μ-loop3 Inv-loop μ-loop
+  here-a = loop-a c
 
-  -- what the high execution's turn leaves; the low one goes on from where it is
-  passes : {h : Held} → Turned (jobOf high) High (high .loop .inv .kept .sent) (heldAt high) h (high .loop .out) (high .loop .out) → h .low ≡ high .loop .low → h .kinds ≡ high .loop .kinds → length (h .message) ≡ keyCapacity
-      → Inv (jobOf high) (callerOf high .args .out .now) h (high .loop .out)
-  passes t same kinds full =
-      let i = high .loop .inv in
+  -- what A's execution's turn leaves; the low one goes on from where it is
+  passes-a : {h : Held} → Turned (jobOf here-a) (High A) (here-a .loop .inv .kept .sent) (heldAt here-a) h (here-a .loop .out) (here-a .loop .out) → h .low ≡ here-a .loop .low → h .kinds ≡ here-a .loop .kinds → length (h .message) ≡ keyCapacity
+      → Inv (jobOf here-a) (callerOf here-a .args .out .now) h (here-a .loop .out)
+  passes-a t same kinds full =
+      let i = here-a .loop .inv in
       record {
-        kept = again (ready high) (i .kept) (i .live) (more (highLetter c)) High (level-is (highLetter c) ∙ c .enum-told5 .given .1) refl t;
+        kept = again (ready here-a) (i .kept) (i .live) (more (letter-a c)) (High A) (level-is (letter-a c) ∙ c .before .before .before .owner .given .1 ∙ ap (λ (o : Owner). High o) (c .enum-told5 .given .1)) refl t;
         full = full;
         noted = ap length kinds ∙ i .noted;
         live = omega (arith, i .live, ap (λ (x : Execution). x .place) same);
@@ -349,58 +352,58 @@ module _ (c : tie.After-enum-told5 Inv-loop2 μ-loop2 Inv-loop3 μ-loop3 Inv-loo
 loop-again-4 : tie.Need-loop-again-4 Inv-loop2 μ-loop2 Inv-loop3 μ-loop3 Inv-loop μ-loop
 loop-again-4 c =
     let t = c .before .before in
-    let l = highLoop t in
-    let idle = ends-idle (ready l) (l .loop .inv .kept .sent) (heldAt l) High (c .before .if6 .taken) in
-    passes t (idle-turn (ready l) (l .loop .inv .kept .sent) (heldAt l) High refl idle _ (c .ticked4 .ensures) _) refl refl (l .loop .inv .full)
+    let l = loop-a t in
+    let idle = ends-idle (ready l) (l .loop .inv .kept .sent) (heldAt l) (High A) (c .before .if6 .taken) in
+    passes-a t (idle-turn (ready l) (l .loop .inv .kept .sent) (heldAt l) (High A) refl idle _ (c .ticked4 .ensures) _) refl refl (l .loop .inv .full)
 
--- the high execution is not at the end
-abbrev highOf : tie.Else6 Inv-loop2 μ-loop2 Inv-loop3 μ-loop3 Inv-loop μ-loop → tie.After-enum-told5 Inv-loop2 μ-loop2 Inv-loop3 μ-loop3 Inv-loop μ-loop
-highOf c = c .before
+-- A's execution is not at the end
+abbrev of-a : tie.Else6 Inv-loop2 μ-loop2 Inv-loop3 μ-loop3 Inv-loop μ-loop → tie.After-enum-told5 Inv-loop2 μ-loop2 Inv-loop3 μ-loop3 Inv-loop μ-loop
+of-a c = c .before
 
-high-live : (c : tie.Else6 Inv-loop2 μ-loop2 Inv-loop3 μ-loop3 Inv-loop μ-loop) → let l = highLoop (highOf c) in l .loop .high .place < jobOf l .«command_count»
-high-live c = omega (arith, c .if6 .left)
+live-a : (c : tie.Else6 Inv-loop2 μ-loop2 Inv-loop3 μ-loop3 Inv-loop μ-loop) → let l = loop-a (of-a c) in l .loop .a .place < jobOf l .«command_count»
+live-a c = omega (arith, c .if6 .left)
 
-abbrev goingOf : tie.After-waits Inv-loop2 μ-loop2 Inv-loop3 μ-loop3 Inv-loop μ-loop → tie.Else6 Inv-loop2 μ-loop2 Inv-loop3 μ-loop3 Inv-loop μ-loop
-goingOf c = c .before .before .before .before
+abbrev going-a : tie.After-waits Inv-loop2 μ-loop2 Inv-loop3 μ-loop3 Inv-loop μ-loop → tie.Else6 Inv-loop2 μ-loop2 Inv-loop3 μ-loop3 Inv-loop μ-loop
+going-a c = c .before .before .before .before
 
-waits-is : (c : tie.After-waits Inv-loop2 μ-loop2 Inv-loop3 μ-loop3 Inv-loop μ-loop) →
-    let l = highLoop (highOf (goingOf c)) in
-    waits (callOf (commandAt (jobOf l .commands) (l .loop .high .place) .op)) (madeBefore (l .loop .high .calls) (l .loop .low .calls) (l .loop .kinds)) ≡ c .waits .result
-waits-is c = sym (c .waits .ensures ∙ ap₂ waits (c .before .before .call-of2 .ensures) (c .before .made .ensures))
+waits-a : (c : tie.After-waits Inv-loop2 μ-loop2 Inv-loop3 μ-loop3 Inv-loop μ-loop) →
+    let l = loop-a (of-a (going-a c)) in
+    waits (callOf (commandAt (jobOf l .commands) (l .loop .a .place) .op)) (madeBefore (l .loop .a .calls) (l .loop .low .calls) (l .loop .kinds)) ≡ c .waits .result
+waits-a c = sym (c .waits .ensures ∙ ap₂ waits (c .before .before .call-of2 .ensures) (c .before .made .ensures))
 
 loop-again-5 : tie.Need-loop-again-5 Inv-loop2 μ-loop2 Inv-loop3 μ-loop3 Inv-loop μ-loop
 loop-again-5 c =
     let w = c .before .before in
-    let g = goingOf w in
-    let l = highLoop (highOf g) in
-    let idle = waits-here (ready l) (l .loop .inv .kept .sent) (heldAt l) High (high-live g) (kinds-inside (highLetter (highOf g)) High) ∙ waits-is w ∙ c .before .if7 .taken in
-    passes (highOf g) (idle-turn (ready l) (l .loop .inv .kept .sent) (heldAt l) High refl idle _ (c .ticked5 .ensures) _) refl refl (l .loop .inv .full)
+    let g = going-a w in
+    let l = loop-a (of-a g) in
+    let idle = waits-here (ready l) (l .loop .inv .kept .sent) (heldAt l) (High A) (live-a g) (kinds-inside (letter-a (of-a g)) (High A)) ∙ waits-a w ∙ c .before .if7 .taken in
+    passes-a (of-a g) (idle-turn (ready l) (l .loop .inv .kept .sent) (heldAt l) (High A) refl idle _ (c .ticked5 .ensures) _) refl refl (l .loop .inv .full)
 
-abbrev movesOf : tie.After-index6 Inv-loop2 μ-loop2 Inv-loop3 μ-loop3 Inv-loop μ-loop → tie.Else7 Inv-loop2 μ-loop2 Inv-loop3 μ-loop3 Inv-loop μ-loop
-movesOf c = c .before .before .before .before
+abbrev moves-a : tie.After-index6 Inv-loop2 μ-loop2 Inv-loop3 μ-loop3 Inv-loop μ-loop → tie.Else7 Inv-loop2 μ-loop2 Inv-loop3 μ-loop3 Inv-loop μ-loop
+moves-a c = c .before .before .before .before
 
-operands-high : (c : tie.Else7 Inv-loop2 μ-loop2 Inv-loop3 μ-loop3 Inv-loop μ-loop) →
-    let l = highLoop (highOf (goingOf (c .before))) in
-    Within (jobOf l .keys) (jobOf l .«command_count») (commandAt (jobOf l .commands) (l .loop .high .place))
-operands-high c = let g = goingOf (c .before) in let l = highLoop (highOf g) in operands-at (ready l) (l .loop .high .place) (high-live g)
+operands-a : (c : tie.Else7 Inv-loop2 μ-loop2 Inv-loop3 μ-loop3 Inv-loop μ-loop) →
+    let l = loop-a (of-a (going-a (c .before))) in
+    Within (jobOf l .keys) (jobOf l .«command_count») (commandAt (jobOf l .commands) (l .loop .a .place))
+operands-a c = let g = going-a (c .before) in let l = loop-a (of-a g) in operands-at (ready l) (l .loop .a .place) (live-a g)
 
-key-high : (c : tie.After-index4 Inv-loop2 μ-loop2 Inv-loop3 μ-loop3 Inv-loop μ-loop) → c .index4 .result < keyCapacity
-key-high c = omega (arith, c .index4 .ensures, operands-high (c .before) .k, few (ready (highLoop (highOf (goingOf (c .before .before))))) .keys)
+key-a : (c : tie.After-index4 Inv-loop2 μ-loop2 Inv-loop3 μ-loop3 Inv-loop μ-loop) → c .index4 .result < keyCapacity
+key-a c = omega (arith, c .index4 .ensures, operands-a (c .before) .k, few (ready (loop-a (of-a (going-a (c .before .before))))) .keys)
 
-v-high : (c : tie.After-index5 Inv-loop2 μ-loop2 Inv-loop3 μ-loop3 Inv-loop μ-loop) → c .index5 .result < variables
-v-high c = omega (arith, c .index5 .ensures, operands-high (c .before .before .before) .v)
+v-a : (c : tie.After-index5 Inv-loop2 μ-loop2 Inv-loop3 μ-loop3 Inv-loop μ-loop) → c .index5 .result < variables
+v-a c = omega (arith, c .index5 .ensures, operands-a (c .before .before .before) .v)
 
-w-high : (c : tie.After-index6 Inv-loop2 μ-loop2 Inv-loop3 μ-loop3 Inv-loop μ-loop) → c .index6 .result < variables
-w-high c = omega (arith, c .index6 .ensures, operands-high (movesOf c) .w)
+w-a : (c : tie.After-index6 Inv-loop2 μ-loop2 Inv-loop3 μ-loop3 Inv-loop μ-loop) → c .index6 .result < variables
+w-a c = omega (arith, c .index6 .ensures, operands-a (moves-a c) .w)
 
-abbrev effectHigh : tie.After-effect-at2 Inv-loop2 μ-loop2 Inv-loop3 μ-loop3 Inv-loop μ-loop → tie.After-index6 Inv-loop2 μ-loop2 Inv-loop3 μ-loop3 Inv-loop μ-loop
-effectHigh c = c .before .before .before .before
+abbrev effect-a : tie.After-effect-at2 Inv-loop2 μ-loop2 Inv-loop3 μ-loop3 Inv-loop μ-loop → tie.After-index6 Inv-loop2 μ-loop2 Inv-loop3 μ-loop3 Inv-loop μ-loop
+effect-a c = c .before .before .before .before
 
-abbrev keyHigh : tie.After-with2 Inv-loop2 μ-loop2 Inv-loop3 μ-loop3 Inv-loop μ-loop → tie.After-index4 Inv-loop2 μ-loop2 Inv-loop3 μ-loop3 Inv-loop μ-loop
-keyHigh c = effectHigh (c .before .before .before) .before .before .before
+abbrev keyAt-a : tie.After-with2 Inv-loop2 μ-loop2 Inv-loop3 μ-loop3 Inv-loop μ-loop → tie.After-index4 Inv-loop2 μ-loop2 Inv-loop3 μ-loop3 Inv-loop μ-loop
+keyAt-a c = effect-a (c .before .before .before) .before .before .before
 
-held-high : (c : tie.After-holds2 Inv-loop2 μ-loop2 Inv-loop3 μ-loop3 Inv-loop μ-loop) → toZ w32 (ofZ w32 (c .holds2 .result)) ≡ c .holds2 .result
-held-high c = toZ-ofZ w32 (c .holds2 .result) (search needs)
+held-a : (c : tie.After-holds2 Inv-loop2 μ-loop2 Inv-loop3 μ-loop3 Inv-loop μ-loop) → toZ w32 (ofZ w32 (c .holds2 .result)) ≡ c .holds2 .result
+held-a c = toZ-ofZ w32 (c .holds2 .result) (search needs)
 
 loop-again-6 : tie.Need-loop-again-6 Inv-loop2 μ-loop2 Inv-loop3 μ-loop3 Inv-loop μ-loop
 loop-again-6 c =
@@ -408,19 +411,120 @@ loop-again-6 c =
     let z = w .before in
     let n = z .before in
     let f = n .before in
-    let o = effectHigh f in
+    let o = effect-a f in
     let iv = o .before in
     let ik = iv .before .before in
-    let e = movesOf o in
-    let g = goingOf (e .before) in
-    let l = highLoop (highOf g) in
-    let x = l .loop .high in
-    passes (highOf g)
-    (command-turn (ready l) (l .loop .inv .kept .sent) (heldAt l) High (high-live g) (kinds-inside (highLetter (highOf g)) High, waits-is (e .before) ∙ e .if7 .left)
+    let e = moves-a o in
+    let g = going-a (e .before) in
+    let l = loop-a (of-a g) in
+    let x = l .loop .a in
+    passes-a (of-a g)
+    (command-turn (ready l) (l .loop .inv .kept .sent) (heldAt l) (High A) (live-a g) (kinds-inside (letter-a (of-a g)) (High A), waits-a (e .before) ∙ e .if7 .left)
     _ _ _ (ik .index4 .ensures) (iv .index5 .ensures) (o .index6 .ensures)
     _ _ (toZ-ofZ w32 (variable x (iv .index5 .result)) (sfits-of (f .before .before .effect-at-arg3 .given))) (toZ-ofZ w32 (variable x (o .index6 .result)) (sfits-of (f .before .effect-at-arg4 .given)))
     _ (f .before .before .before .side2 .ensures) _ (f .effect-at2 .ensures) _ (e .before .before .before .call-of2 .ensures)
-    _ (n .after2 .ensures) _ (held-high z ∙ z .holds2 .ensures) _ (w .with2 .ensures) _ (c .ticked6 .ensures) _)
+    _ (n .after2 .ensures) _ (held-a z ∙ z .holds2 .ensures) _ (w .with2 .ensures) _ (c .ticked6 .ensures) _)
+    refl refl (simp length-set (l .loop .inv .full))
+
+-- ---- Turns of B
+
+abbrev letter-b : tie.After-enum-told6 Inv-loop2 μ-loop2 Inv-loop3 μ-loop3 Inv-loop μ-loop → tie.After-level-of Inv-loop2 μ-loop2 Inv-loop3 μ-loop3 Inv-loop μ-loop
+letter-b c = c .before .before .before .before .before
+
+abbrev loop-b : tie.After-enum-told6 Inv-loop2 μ-loop2 Inv-loop3 μ-loop3 Inv-loop μ-loop → tie.At-loop Inv-loop2 μ-loop2 Inv-loop3 μ-loop3 Inv-loop μ-loop
+loop-b c = loopOf (letter-b c)
+
+module _ (c : tie.After-enum-told6 Inv-loop2 μ-loop2 Inv-loop3 μ-loop3 Inv-loop μ-loop) where
+  abbrev here-b : tie.At-loop Inv-loop2 μ-loop2 Inv-loop3 μ-loop3 Inv-loop μ-loop
+  here-b = loop-b c
+
+  -- what B's execution's turn leaves; the low one goes on from where it is
+  passes-b : {h : Held} → Turned (jobOf here-b) (High B) (here-b .loop .inv .kept .sent) (heldAt here-b) h (here-b .loop .out) (here-b .loop .out) → h .low ≡ here-b .loop .low → h .kinds ≡ here-b .loop .kinds → length (h .message) ≡ keyCapacity
+      → Inv (jobOf here-b) (callerOf here-b .args .out .now) h (here-b .loop .out)
+  passes-b t same kinds full =
+      let i = here-b .loop .inv in
+      record {
+        kept = again (ready here-b) (i .kept) (i .live) (more (letter-b c)) (High B) (level-is (letter-b c) ∙ c .before .before .before .owner .given .1 ∙ ap (λ (o : Owner). High o) (c .enum-told6 .given .1)) refl t;
+        full = full;
+        noted = ap length kinds ∙ i .noted;
+        live = omega (arith, i .live, ap (λ (x : Execution). x .place) same);
+      }
+
+loop-again-7 : tie.Need-loop-again-7 Inv-loop2 μ-loop2 Inv-loop3 μ-loop3 Inv-loop μ-loop
+loop-again-7 c =
+    let t = c .before .before in
+    let l = loop-b t in
+    let idle = ends-idle (ready l) (l .loop .inv .kept .sent) (heldAt l) (High B) (c .before .if8 .taken) in
+    passes-b t (idle-turn (ready l) (l .loop .inv .kept .sent) (heldAt l) (High B) refl idle _ (c .ticked7 .ensures) _) refl refl (l .loop .inv .full)
+
+-- B's execution is not at the end
+abbrev of-b : tie.Else8 Inv-loop2 μ-loop2 Inv-loop3 μ-loop3 Inv-loop μ-loop → tie.After-enum-told6 Inv-loop2 μ-loop2 Inv-loop3 μ-loop3 Inv-loop μ-loop
+of-b c = c .before
+
+live-b : (c : tie.Else8 Inv-loop2 μ-loop2 Inv-loop3 μ-loop3 Inv-loop μ-loop) → let l = loop-b (of-b c) in l .loop .b .place < jobOf l .«command_count»
+live-b c = omega (arith, c .if8 .left)
+
+abbrev going-b : tie.After-waits2 Inv-loop2 μ-loop2 Inv-loop3 μ-loop3 Inv-loop μ-loop → tie.Else8 Inv-loop2 μ-loop2 Inv-loop3 μ-loop3 Inv-loop μ-loop
+going-b c = c .before .before .before .before
+
+waits-b : (c : tie.After-waits2 Inv-loop2 μ-loop2 Inv-loop3 μ-loop3 Inv-loop μ-loop) →
+    let l = loop-b (of-b (going-b c)) in
+    waits (callOf (commandAt (jobOf l .commands) (l .loop .b .place) .op)) (madeBefore (l .loop .b .calls) (l .loop .low .calls) (l .loop .kinds)) ≡ c .waits2 .result
+waits-b c = sym (c .waits2 .ensures ∙ ap₂ waits (c .before .before .call-of3 .ensures) (c .before .made2 .ensures))
+
+loop-again-8 : tie.Need-loop-again-8 Inv-loop2 μ-loop2 Inv-loop3 μ-loop3 Inv-loop μ-loop
+loop-again-8 c =
+    let w = c .before .before in
+    let g = going-b w in
+    let l = loop-b (of-b g) in
+    let idle = waits-here (ready l) (l .loop .inv .kept .sent) (heldAt l) (High B) (live-b g) (kinds-inside (letter-b (of-b g)) (High B)) ∙ waits-b w ∙ c .before .if9 .taken in
+    passes-b (of-b g) (idle-turn (ready l) (l .loop .inv .kept .sent) (heldAt l) (High B) refl idle _ (c .ticked8 .ensures) _) refl refl (l .loop .inv .full)
+
+abbrev moves-b : tie.After-index9 Inv-loop2 μ-loop2 Inv-loop3 μ-loop3 Inv-loop μ-loop → tie.Else9 Inv-loop2 μ-loop2 Inv-loop3 μ-loop3 Inv-loop μ-loop
+moves-b c = c .before .before .before .before
+
+operands-b : (c : tie.Else9 Inv-loop2 μ-loop2 Inv-loop3 μ-loop3 Inv-loop μ-loop) →
+    let l = loop-b (of-b (going-b (c .before))) in
+    Within (jobOf l .keys) (jobOf l .«command_count») (commandAt (jobOf l .commands) (l .loop .b .place))
+operands-b c = let g = going-b (c .before) in let l = loop-b (of-b g) in operands-at (ready l) (l .loop .b .place) (live-b g)
+
+key-b : (c : tie.After-index7 Inv-loop2 μ-loop2 Inv-loop3 μ-loop3 Inv-loop μ-loop) → c .index7 .result < keyCapacity
+key-b c = omega (arith, c .index7 .ensures, operands-b (c .before) .k, few (ready (loop-b (of-b (going-b (c .before .before))))) .keys)
+
+v-b : (c : tie.After-index8 Inv-loop2 μ-loop2 Inv-loop3 μ-loop3 Inv-loop μ-loop) → c .index8 .result < variables
+v-b c = omega (arith, c .index8 .ensures, operands-b (c .before .before .before) .v)
+
+w-b : (c : tie.After-index9 Inv-loop2 μ-loop2 Inv-loop3 μ-loop3 Inv-loop μ-loop) → c .index9 .result < variables
+w-b c = omega (arith, c .index9 .ensures, operands-b (moves-b c) .w)
+
+abbrev effect-b : tie.After-effect-at3 Inv-loop2 μ-loop2 Inv-loop3 μ-loop3 Inv-loop μ-loop → tie.After-index9 Inv-loop2 μ-loop2 Inv-loop3 μ-loop3 Inv-loop μ-loop
+effect-b c = c .before .before .before .before
+
+abbrev keyAt-b : tie.After-with3 Inv-loop2 μ-loop2 Inv-loop3 μ-loop3 Inv-loop μ-loop → tie.After-index7 Inv-loop2 μ-loop2 Inv-loop3 μ-loop3 Inv-loop μ-loop
+keyAt-b c = effect-b (c .before .before .before) .before .before .before
+
+held-b : (c : tie.After-holds3 Inv-loop2 μ-loop2 Inv-loop3 μ-loop3 Inv-loop μ-loop) → toZ w32 (ofZ w32 (c .holds3 .result)) ≡ c .holds3 .result
+held-b c = toZ-ofZ w32 (c .holds3 .result) (search needs)
+
+loop-again-9 : tie.Need-loop-again-9 Inv-loop2 μ-loop2 Inv-loop3 μ-loop3 Inv-loop μ-loop
+loop-again-9 c =
+    let w = c .before in
+    let z = w .before in
+    let n = z .before in
+    let f = n .before in
+    let o = effect-b f in
+    let iv = o .before in
+    let ik = iv .before .before in
+    let e = moves-b o in
+    let g = going-b (e .before) in
+    let l = loop-b (of-b g) in
+    let x = l .loop .b in
+    passes-b (of-b g)
+    (command-turn (ready l) (l .loop .inv .kept .sent) (heldAt l) (High B) (live-b g) (kinds-inside (letter-b (of-b g)) (High B), waits-b (e .before) ∙ e .if9 .left)
+    _ _ _ (ik .index7 .ensures) (iv .index8 .ensures) (o .index9 .ensures)
+    _ _ (toZ-ofZ w32 (variable x (iv .index8 .result)) (sfits-of (f .before .before .effect-at-arg5 .given))) (toZ-ofZ w32 (variable x (o .index9 .result)) (sfits-of (f .before .effect-at-arg6 .given)))
+    _ (f .before .before .before .side3 .ensures) _ (f .effect-at3 .ensures) _ (e .before .before .before .call-of3 .ensures)
+    _ (n .after3 .ensures) _ (held-b z ∙ z .holds3 .ensures) _ (w .with3 .ensures) _ (c .ticked9 .ensures) _)
     refl refl (simp length-set (l .loop .inv .full))
 
 -- ---- All of it
@@ -437,7 +541,7 @@ run-job-spec =
     tie.close
     (tie.spec
     Inv-loop2 μ-loop2 Inv-loop3 μ-loop3 Inv-loop μ-loop (λ c. omega (arith, few (c .before .pre) .keys)) (λ c. omega (arith, few (c .before .pre) .keys))
-    (λ c κs. search needs) (λ c κs. search needs) (λ c κs. search needs) (λ c κs. search needs) loop-holds ended-requires
+    (λ c κs. search needs) (λ c κs. search needs) (λ c κs. search needs) (λ c κs. search needs) (λ c κs. search needs) loop-holds ended-requires
     (λ c. let l = c .before .before in same-length (ready l) (l .loop .inv .kept)) returns (λ c. omega (arith, few (ready (c .before)) .letters, c .if1 .left))
     (λ c κs. search needs) (λ c. search needs)
     (λ c. omega (arith, lowLoop c .loop .inv .live, few (ready (lowLoop c)) .commands)) (λ c. omega (arith, lowLoop c .loop .inv .live, few (ready (lowLoop c)) .commands))
@@ -481,16 +585,30 @@ run-job-spec =
     (λ c. let t = c .before .before in stops (commandLow (keyLow (t .before) .before)) (after-command t) (c .before .if5 .taken) (c .ended5 .result) (c .ended5 .ensures))
     (λ c. let t = c .before in fewer (lowLetter (commandLow (keyLow (t .before) .before))) Low _ (t .ticked3 .ensures))
     (λ c. record { kept = after-command (c .before); full = simp length-set (lowLoop (commandLow (keyLow (c .before .before) .before)) .loop .inv .full); noted = lowLoop (commandLow (keyLow (c .before .before) .before)) .loop .inv .noted; live = omega (arith, c .if5 .left) })
-    (λ c. search needs) (λ c κs. ticks (highLoop (c .before))) (λ c. fewer (highLetter (c .before .before)) High _ (c .ticked4 .ensures)) loop-again-4
-    (λ c. omega (arith, high-live c, few (ready (highLoop (highOf c))) .commands)) (λ c. omega (arith, high-live c, few (ready (highLoop (highOf c))) .commands))
-    (λ c κs. search needs) (λ c. let t = highOf (c .before .before) in omega (arith, kinds-inside (highLetter t) High, highLoop t .loop .inv .noted))
-    (λ c κs. search needs) (λ c κs. search needs) (λ c κs. ticks (highLoop (highOf (goingOf (c .before)))))
-    (λ c. fewer (highLetter (highOf (goingOf (c .before .before)))) High _ (c .ticked5 .ensures)) loop-again-5 (λ c κs. search needs)
-    (λ c. omega (arith, key-high c)) (λ c. omega (arith, key-high c)) (λ c κs. search needs) (λ c κs. search needs) (λ c κs. search needs)
-    (λ c. omega (arith, v-high (c .before .before))) (λ c. omega (arith, v-high (c .before .before)))
-    (λ c. omega (arith, w-high (c .before .before))) (λ c. omega (arith, w-high (c .before .before)))
-    (λ c κs. let g = goingOf (movesOf (c .before .before .before) .before) in (high-live g, counts-small (highLoop (highOf g)) High .1))
-    (λ c κs. (v-high (effectHigh c .before), counts-small (highLoop (highOf (goingOf (movesOf (effectHigh c) .before)))) High .0)) (λ c κs. v-high (effectHigh (c .before) .before))
-    (λ c. omega (arith, v-high (effectHigh (c .before .before) .before))) (λ c. omega (arith, v-high (effectHigh (c .before .before) .before))) (λ c κs. search needs)
-    (λ c. omega (arith, key-high (keyHigh c))) (λ c. omega (arith, key-high (keyHigh c))) (λ c κs. ticks (highLoop (highOf (goingOf (keyHigh c .before .before)))))
-    (λ c. fewer (highLetter (highOf (goingOf (keyHigh (c .before) .before .before)))) High _ (c .ticked6 .ensures)) loop-again-6)
+    (λ c. search needs)
+    (λ c. search needs) (λ c κs. ticks (loop-a (c .before))) (λ c. fewer (letter-a (c .before .before)) (High A) _ (c .ticked4 .ensures)) loop-again-4
+    (λ c. omega (arith, live-a c, few (ready (loop-a (of-a c))) .commands)) (λ c. omega (arith, live-a c, few (ready (loop-a (of-a c))) .commands))
+    (λ c κs. search needs) (λ c. let t = of-a (c .before .before) in omega (arith, kinds-inside (letter-a t) (High A), loop-a t .loop .inv .noted))
+    (λ c κs. search needs) (λ c κs. search needs) (λ c κs. ticks (loop-a (of-a (going-a (c .before)))))
+    (λ c. fewer (letter-a (of-a (going-a (c .before .before)))) (High A) _ (c .ticked5 .ensures)) loop-again-5 (λ c κs. search needs)
+    (λ c. omega (arith, key-a c)) (λ c. omega (arith, key-a c)) (λ c κs. search needs) (λ c κs. search needs) (λ c κs. search needs)
+    (λ c. omega (arith, v-a (c .before .before))) (λ c. omega (arith, v-a (c .before .before)))
+    (λ c. omega (arith, w-a (c .before .before))) (λ c. omega (arith, w-a (c .before .before)))
+    (λ c κs. let g = going-a (moves-a (c .before .before .before) .before) in (live-a g, counts-small (loop-a (of-a g)) (High A) .1))
+    (λ c κs. (v-a (effect-a c .before), counts-small (loop-a (of-a (going-a (moves-a (effect-a c) .before)))) (High A) .0)) (λ c κs. v-a (effect-a (c .before) .before))
+    (λ c. omega (arith, v-a (effect-a (c .before .before) .before))) (λ c. omega (arith, v-a (effect-a (c .before .before) .before))) (λ c κs. search needs)
+    (λ c. omega (arith, key-a (keyAt-a c))) (λ c. omega (arith, key-a (keyAt-a c))) (λ c κs. ticks (loop-a (of-a (going-a (keyAt-a c .before .before)))))
+    (λ c. fewer (letter-a (of-a (going-a (keyAt-a (c .before) .before .before)))) (High A) _ (c .ticked6 .ensures)) loop-again-6
+    (λ c. search needs) (λ c κs. ticks (loop-b (c .before))) (λ c. fewer (letter-b (c .before .before)) (High B) _ (c .ticked7 .ensures)) loop-again-7
+    (λ c. omega (arith, live-b c, few (ready (loop-b (of-b c))) .commands)) (λ c. omega (arith, live-b c, few (ready (loop-b (of-b c))) .commands))
+    (λ c κs. search needs) (λ c. let t = of-b (c .before .before) in omega (arith, kinds-inside (letter-b t) (High B), loop-b t .loop .inv .noted))
+    (λ c κs. search needs) (λ c κs. search needs) (λ c κs. ticks (loop-b (of-b (going-b (c .before)))))
+    (λ c. fewer (letter-b (of-b (going-b (c .before .before)))) (High B) _ (c .ticked8 .ensures)) loop-again-8 (λ c κs. search needs)
+    (λ c. omega (arith, key-b c)) (λ c. omega (arith, key-b c)) (λ c κs. search needs) (λ c κs. search needs) (λ c κs. search needs)
+    (λ c. omega (arith, v-b (c .before .before))) (λ c. omega (arith, v-b (c .before .before)))
+    (λ c. omega (arith, w-b (c .before .before))) (λ c. omega (arith, w-b (c .before .before)))
+    (λ c κs. let g = going-b (moves-b (c .before .before .before) .before) in (live-b g, counts-small (loop-b (of-b g)) (High B) .1))
+    (λ c κs. (v-b (effect-b c .before), counts-small (loop-b (of-b (going-b (moves-b (effect-b c) .before)))) (High B) .0)) (λ c κs. v-b (effect-b (c .before) .before))
+    (λ c. omega (arith, v-b (effect-b (c .before .before) .before))) (λ c. omega (arith, v-b (effect-b (c .before .before) .before))) (λ c κs. search needs)
+    (λ c. omega (arith, key-b (keyAt-b c))) (λ c. omega (arith, key-b (keyAt-b c))) (λ c κs. ticks (loop-b (of-b (going-b (keyAt-b c .before .before)))))
+    (λ c. fewer (letter-b (of-b (going-b (keyAt-b (c .before) .before .before)))) (High B) _ (c .ticked9 .ensures)) loop-again-9)
