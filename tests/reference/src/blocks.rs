@@ -87,7 +87,7 @@ impl Translation {
             // "the commands of document 01 except `jump`, `ifneg` and `ifzero`". Reading: such a line
             // has a word that is not in the table, whatever its other parts are.
             [b"jump" | b"ifneg" | b"ifzero", ..] => return Err(6),
-            _ => self.commands.push(command(text, self.keys)?),
+            _ => self.commands.push(command(text, self.keys, MOST_COMMANDS)?),
         }
         Ok(())
     }

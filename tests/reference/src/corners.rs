@@ -8,12 +8,15 @@ pub mod calls;
 pub mod clamps;
 pub mod honest;
 pub mod log;
+mod owner_records;
+pub mod owners;
 pub mod records;
 
-use crate::model::{end_line, LENT};
+use crate::model::{end_line, Form, LENT};
 use calls::{CALLS, LONG_CALLS};
 use clamps::{CLAMPS, ENDS, LONG_CLAMPS, REFUSED_CLAMPS};
 use honest::{HONEST, LONG_HONEST, LUCKY, SHORT, SPOILT};
+use owners::{LONG_OWNERS, OWNERS, REFUSED_OWNERS, REFUSED_OWNER_BODIES};
 
 /// A sheet, the bytes lent to it, and what `runsheet` would print with that many bytes lent.
 #[derive(Debug, Clone, PartialEq, Eq)]
@@ -45,7 +48,29 @@ pub fn corners() -> Vec<Corner> {
         corners.push(long_corner(long));
     }
     corners.extend(honest_corners());
+    corners.extend(owner_corners());
     corners
+}
+
+/// Those whose sheets begin with the number of this form.
+pub fn corners_by(form: Form) -> Vec<Corner> {
+    let first_line = format!("sheet={}\n", form.number());
+    let mut corners = corners();
+    corners.retain(|corner| corner.sheet.starts_with(first_line.as_bytes()));
+    corners
+}
+
+/// The corners of Note 8.
+pub fn owner_corners() -> Vec<Corner> {
+    let runs = OWNERS.iter().map(corner_of);
+    let whole = REFUSED_OWNERS.iter();
+    let whole = whole.map(|&(number, line, sheet)| refused(number, line, sheet));
+    let bodies = REFUSED_OWNER_BODIES.iter().map(|&(number, line, body)| {
+        let sheet = format!("sheet=2\nkeys=2\n{body}");
+        refused(number, line, sheet.as_bytes())
+    });
+    let long = LONG_OWNERS.iter().map(long_corner);
+    runs.chain(whole).chain(bodies).chain(long).collect()
 }
 
 /// The corners of Note 4: what the monitor prints for honest programs and for others.
@@ -464,8 +489,8 @@ pub const REFUSED: &[Refused] = &[
     // A forbidden byte comes before an open end, and both before every fault of a line.
     (2, 1, b"\x7f\n\nkeys"),
     (2, 3, b"\n\n\x80"),
-    (2, 4, b"sheet=2\nkeys=1\ndo=stop\nturns=L"),
-    (2, 4, b"sheet=2\n\n\n\x1f\n"),
+    (2, 4, b"sheet=3\nkeys=1\ndo=stop\nturns=L"),
+    (2, 4, b"sheet=3\n\n\n\x1f\n"),
     // 3 in the first two lines.
     (3, 1, b"\n"),
     (3, 1, b"sheet\n"),
@@ -484,7 +509,7 @@ pub const REFUSED: &[Refused] = &[
     // 4 in the first two lines.
     (4, 1, b"sheet=\n"),
     (4, 1, b"sheet=0\n"),
-    (4, 1, b"sheet=2\n"),
+    (4, 1, b"sheet=3\n"),
     (4, 1, b"sheet=01\n"),
     (4, 1, b"sheet=-1\n"),
     (4, 1, b"sheet=+1\n"),
@@ -492,7 +517,7 @@ pub const REFUSED: &[Refused] = &[
     (4, 1, b"sheet=1 \n"),
     (4, 1, b"sheet==1\n"),
     (4, 1, b"sheet=1=1\n"),
-    (4, 1, b"sheet=2\nno name\n"),
+    (4, 1, b"sheet=3\nno name\n"),
     (4, 2, b"sheet=1\nkeys=\n"),
     (4, 2, b"sheet=1\nkeys=0\n"),
     (4, 2, b"sheet=1\nkeys=9\n"),

@@ -1,19 +1,23 @@
 //! Random sheets from a seed.
 //!
 //! The same seed gives the same sheets on every machine. Accepted sheets are made as a [`Job`] and
-//! then written out by [`sheet_of`]; damaged ones begin as accepted ones.
+//! then written out by [`sheet_of`]; damaged ones begin as accepted ones. A function whose name ends with
+//! `by` is given the form of the sheet; the one without makes sheets of form 1.
 
 pub mod block_damage;
 pub mod blocks;
 mod damage;
 pub mod honest;
 pub mod log;
+mod owners;
 mod programs;
 pub mod records;
 
 use crate::model::{
-    read, run, words, Job, Level, LENT, MOST_COMMANDS, MOST_KEYS, MOST_MESSAGES, MOST_TURNS,
+    read, run, words, Form, Job, Level, Owner, Secret, HIGH, LENT, MOST_COMMANDS, MOST_KEYS,
+    MOST_MESSAGES, MOST_TURNS,
 };
+pub use owners::crossed;
 
 /// A small generator of pseudo-random numbers (splitmix64).
 #[derive(Debug, Clone)]
@@ -74,16 +78,27 @@ impl Shape {
 
 /// A random sheet that the model accepts.
 pub fn accepted(rng: &mut Rng, shape: Shape) -> Vec<u8> {
-    sheet_of(&accepted_job(rng, shape))
+    accepted_by(Form::One, rng, shape)
+}
+
+pub fn accepted_by(form: Form, rng: &mut Rng, shape: Shape) -> Vec<u8> {
+    sheet_of(&accepted_job_by(form, rng, shape))
 }
 
 /// An accepted sheet with one or two faults, so that every refusal occurs often. A few of the
 /// changes do no harm (a target that equals the count of commands, say).
 pub fn damaged(rng: &mut Rng) -> Vec<u8> {
+    damaged_by(Form::One, rng)
+}
+
+pub fn damaged_by(form: Form, rng: &mut Rng) -> Vec<u8> {
     let shape = rng.pick(&[Shape::Small, Shape::Small, Shape::Medium]);
-    let mut sheet = accepted(rng, shape);
+    let mut sheet = accepted_by(form, rng, shape);
     for _ in 0..rng.between(1, 2) {
-        sheet = damage::damage(rng, &sheet);
+        sheet = match form {
+            Form::One => damage::damage(rng, &sheet),
+            Form::Two => owners::damage(rng, &sheet),
+        };
     }
     sheet
 }
@@ -91,6 +106,10 @@ pub fn damaged(rng: &mut Rng) -> Vec<u8> {
 /// Bytes that are no work of a generator of sheets: random bytes, random text of the format's
 /// alphabet, or random lines.
 pub fn noise(rng: &mut Rng) -> Vec<u8> {
+    noise_by(Form::One, rng)
+}
+
+pub fn noise_by(form: Form, rng: &mut Rng) -> Vec<u8> {
     match rng.below(4) {
         0 => {
             let count = rng.below(200);
@@ -102,18 +121,22 @@ pub fn noise(rng: &mut Rng) -> Vec<u8> {
             text.push(b'\n');
             text
         }
-        _ => damage::random_lines(rng),
+        _ => damage::random_lines(form, rng),
     }
 }
 
 /// Two accepted sheets that differ in secret entries of their message lines, by value or by
 /// presence, and in nothing else.
 pub fn secret_pair(rng: &mut Rng) -> (Vec<u8>, Vec<u8>) {
+    secret_pair_by(Form::One, &[Owner::H], rng)
+}
+
+/// The same, where only entries of these owners differ. They must be owners of the form, and at least one.
+pub fn secret_pair_by(form: Form, owners: &[Owner], rng: &mut Rng) -> (Vec<u8>, Vec<u8>) {
     let shape = rng.pick(&Shape::ALL);
-    let mut first = accepted_job(rng, shape);
-    if first.secrets.iter().all(Option::is_none) {
-        let key = rng.below(first.keys);
-        first.secrets[key] = Some(value(rng));
+    let mut first = accepted_job_by(form, rng, shape);
+    if owners.iter().any(|&owner| !has_keys(&first, owner)) {
+        give_keys(rng, &mut first, owners);
     }
     if first.messages.is_empty() {
         first.messages.push(vec![None; first.keys]);
@@ -121,20 +144,35 @@ pub fn secret_pair(rng: &mut Rng) -> (Vec<u8>, Vec<u8>) {
     let mut second = first.clone();
     for line in &mut second.messages {
         for (entry, secret) in line.iter_mut().zip(&first.secrets) {
-            if secret.is_some() && rng.chance(3, 4) {
+            let theirs = secret.is_some_and(|secret| owners.contains(&secret.owner));
+            if theirs && rng.chance(3, 4) {
                 *entry = maybe(rng, 3, 4);
             }
         }
     }
     if first == second {
-        make_different(rng, &mut second);
+        make_different(rng, &mut second, owners);
     }
     (sheet_of(&first), sheet_of(&second))
 }
 
+fn has_keys(job: &Job, owner: Owner) -> bool {
+    (0..job.keys).any(|key| job.secret_of(owner, key).is_some())
+}
+
+/// Makes a key of each of these owners secret, as far as there are keys.
+fn give_keys(rng: &mut Rng, job: &mut Job, owners: &[Owner]) {
+    let first = rng.below(job.keys);
+    for (place, &owner) in owners.iter().enumerate() {
+        let dummy = value(rng);
+        job.secrets[(first + place) % job.keys] = Some(Secret { dummy, owner });
+    }
+}
+
 /// Turns one secret entry of the first message line from present to absent, or back.
-fn make_different(rng: &mut Rng, job: &mut Job) {
-    let secret = job.secrets.iter().position(Option::is_some);
+fn make_different(rng: &mut Rng, job: &mut Job, owners: &[Owner]) {
+    let theirs = |secret: &Option<Secret>| secret.is_some_and(|s| owners.contains(&s.owner));
+    let secret = job.secrets.iter().position(theirs);
     if let (Some(key), Some(line)) = (secret, job.messages.first_mut()) {
         line[key] = match line[key] {
             Some(_) => None,
@@ -169,8 +207,18 @@ pub fn memory_length(rng: &mut Rng, sheet: &[u8]) -> usize {
 
 /// A random job of the given shape.
 pub fn accepted_job(rng: &mut Rng, shape: Shape) -> Job {
-    let size = Size::of(rng, shape);
-    let secrets: Vec<Option<i32>> = (0..size.keys).map(|_| maybe(rng, 1, 2)).collect();
+    accepted_job_by(Form::One, rng, shape)
+}
+
+pub fn accepted_job_by(form: Form, rng: &mut Rng, shape: Shape) -> Job {
+    let size = match form {
+        Form::One => Size::of(rng, shape),
+        Form::Two => owners::size(rng, shape),
+    };
+    let secrets = match form {
+        Form::One => (0..size.keys).map(|_| of_one(maybe(rng, 1, 2))).collect(),
+        Form::Two => owners::secrets(rng, size.keys),
+    };
     let commands = match shape {
         Shape::LongRun => programs::endless(rng, &secrets),
         _ => programs::mixed(rng, &secrets, size.commands),
@@ -178,14 +226,24 @@ pub fn accepted_job(rng: &mut Rng, shape: Shape) -> Job {
     let messages = (0..size.messages)
         .map(|_| message(rng, size.keys))
         .collect();
-    let turns = turns(rng, size.turns);
+    let turns = match form {
+        Form::One => turns(rng, size.turns),
+        Form::Two => owners::turns(rng, size.turns),
+    };
     Job {
+        form,
         keys: size.keys,
         secrets,
         commands,
         messages,
         turns,
     }
+}
+
+/// The secret of form 1 with this dummy.
+fn of_one(dummy: Option<i32>) -> Option<Secret> {
+    let owner = Owner::H;
+    dummy.map(|dummy| Secret { dummy, owner })
 }
 
 /// The counts of a sheet.
@@ -211,18 +269,22 @@ impl Size {
                 messages: rng.below(9),
                 turns: rng.between(8, 160),
             },
-            Shape::Large => Size {
-                keys: up_to(rng, 6, MOST_KEYS),
-                commands: up_to(rng, 48, MOST_COMMANDS),
-                messages: up_to(rng, 24, MOST_MESSAGES),
-                turns: up_to(rng, 700, MOST_TURNS),
-            },
+            Shape::Large => Size::large(rng),
             Shape::LongRun => Size {
                 keys: rng.between(1, MOST_KEYS),
                 commands: MOST_COMMANDS,
                 messages: rng.between(0, MOST_MESSAGES),
                 turns: MOST_TURNS,
             },
+        }
+    }
+
+    fn large(rng: &mut Rng) -> Size {
+        Size {
+            keys: up_to(rng, 6, MOST_KEYS),
+            commands: up_to(rng, 48, MOST_COMMANDS),
+            messages: up_to(rng, 24, MOST_MESSAGES),
+            turns: up_to(rng, 700, MOST_TURNS),
         }
     }
 }
@@ -289,7 +351,7 @@ fn message(rng: &mut Rng, keys: usize) -> Vec<Option<i32>> {
 
 /// Letters in one of several mixes.
 fn turns(rng: &mut Rng, count: usize) -> Vec<Level> {
-    let letter = |low: bool| if low { Level::Low } else { Level::High };
+    let letter = |low: bool| if low { Level::Low } else { HIGH };
     match rng.below(22) {
         0..=4 => (0..count).map(|place| letter(place % 2 == 0)).collect(),
         5 | 6 => (0..count).map(|place| letter(place % 2 == 1)).collect(),
@@ -297,7 +359,7 @@ fn turns(rng: &mut Rng, count: usize) -> Vec<Level> {
         11 | 12 => (0..count).map(|_| letter(rng.chance(4, 5))).collect(),
         13..=15 => (0..count).map(|_| letter(rng.chance(1, 4))).collect(),
         16 => vec![Level::Low; count],
-        17 if rng.chance(1, 2) => vec![Level::High; count],
+        17 if rng.chance(1, 2) => vec![HIGH; count],
         18 | 19 => late(rng, count),
         _ => bursts(rng, count),
     }
@@ -307,20 +369,20 @@ fn turns(rng: &mut Rng, count: usize) -> Vec<Level> {
 fn late(rng: &mut Rng, count: usize) -> Vec<Level> {
     let first = rng.between(2, 24);
     let high = |place| place >= first && place % 2 == 1;
-    let letter = |place| if high(place) { Level::High } else { Level::Low };
+    let letter = |place| if high(place) { HIGH } else { Level::Low };
     (0..count).map(letter).collect()
 }
 
 /// Several turns of one execution, then several of the other.
 fn bursts(rng: &mut Rng, count: usize) -> Vec<Level> {
     let mut turns = Vec::new();
-    let mut level = rng.pick(&[Level::Low, Level::High]);
+    let mut level = rng.pick(&[Level::Low, HIGH]);
     while turns.len() < count {
         let length = rng.between(1, 9).min(count - turns.len());
         turns.extend(vec![level; length]);
         level = match level {
-            Level::Low => Level::High,
-            Level::High => Level::Low,
+            Level::Low => HIGH,
+            _ => Level::Low,
         };
     }
     turns
@@ -328,10 +390,14 @@ fn bursts(rng: &mut Rng, count: usize) -> Vec<Level> {
 
 /// Writes a job out as a sheet.
 pub fn sheet_of(job: &Job) -> Vec<u8> {
-    let mut sheet = format!("sheet=1\nkeys={}\n", job.keys);
-    for (key, dummy) in job.secrets.iter().enumerate() {
-        if let Some(dummy) = dummy {
-            sheet.push_str(&format!("secret={key}:{dummy}\n"));
+    let mut sheet = format!("sheet={}\nkeys={}\n", job.form.number(), job.keys);
+    for (key, secret) in job.secrets.iter().enumerate() {
+        if let &Some(Secret { dummy, owner }) = secret {
+            let owner = match job.form {
+                Form::One => String::new(),
+                Form::Two => format!(":{}", char::from(owner.letter())),
+            };
+            sheet.push_str(&format!("secret={key}:{dummy}{owner}\n"));
         }
     }
     for &command in &job.commands {
@@ -340,12 +406,8 @@ pub fn sheet_of(job: &Job) -> Vec<u8> {
     for message in &job.messages {
         sheet.push_str(&format!("msg={}\n", entries(message)));
     }
-    let letter = |level: &Level| match level {
-        Level::Low => 'L',
-        Level::High => 'H',
-    };
     sheet.push_str("turns=");
-    sheet.extend(job.turns.iter().map(letter));
+    sheet.extend(job.turns.iter().map(|level| char::from(level.letter())));
     sheet.push('\n');
     sheet.into_bytes()
 }

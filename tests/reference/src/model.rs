@@ -1,6 +1,8 @@
 //! The reference model of document 01, in the order of its text, with the rule of document 02's
-//! Note 2 for the calls of the high execution, the seventh number of its Note 3, and the classes of
-//! bytes without a table, as its Note 6 has them.
+//! Note 2 for the calls of the high execution, the seventh number of its Note 3, the classes of
+//! bytes without a table, as its Note 6 has them, and the second form of a sheet of its Note 8, with
+//! two owners of secrets. Both forms are read and run by the same functions: a sheet of form 1 is one
+//! with a single owner, whose letter is `H` and whose execution is document 01's high one.
 //!
 //! Words between quotation marks are the documents' own. A comment that begins with "Reading:"
 //! names the reading taken where the text leaves a choice, or seems to leave one.
@@ -36,13 +38,100 @@ const LINE_FEED: u8 = 10;
 // The sheet
 // ---------------------------------------------------------------------------------------------
 
+/// The number behind `sheet=`. Note 8: "A new sheet begins `sheet=2`", and "`sheet=1` runs as before".
+#[derive(Debug, Clone, Copy, PartialEq, Eq, PartialOrd, Ord)]
+pub enum Form {
+    One,
+    Two,
+}
+
+impl Form {
+    pub const ALL: [Form; 2] = [Form::One, Form::Two];
+
+    pub fn number(self) -> usize {
+        match self {
+            Form::One => 1,
+            Form::Two => 2,
+        }
+    }
+
+    /// The form of this number, if there is one.
+    pub fn of(number: usize) -> Option<Form> {
+        Form::ALL.into_iter().find(|form| form.number() == number)
+    }
+
+    /// "An airport and its handler both have secret entries": the owners of a sheet of form 2. On one of
+    /// form 1 every secret is that of the one high execution.
+    pub fn owners(self) -> &'static [Owner] {
+        match self {
+            Form::One => &[Owner::H],
+            Form::Two => &[Owner::A, Owner::B],
+        }
+    }
+
+    /// "turns use `L`, `A`, `B`"; of form 1 "each `L` or `H`".
+    pub fn level(self, letter: u8) -> Option<Level> {
+        let followers = self.owners().iter().copied().map(Level::Of);
+        let mut levels = [Level::Low].into_iter().chain(followers);
+        levels.find(|level| level.letter() == letter)
+    }
+
+    /// Reading: Note 8 names no limit of form 2 but those of document 01.
+    pub fn limits(self) -> Limits {
+        match self {
+            Form::One | Form::Two => Limits {
+                keys: MOST_KEYS,
+                commands: MOST_COMMANDS,
+                messages: MOST_MESSAGES,
+                turns: MOST_TURNS,
+            },
+        }
+    }
+}
+
+/// How much of everything a sheet of a form may have.
+#[derive(Debug, Clone, Copy, PartialEq, Eq)]
+pub struct Limits {
+    pub keys: usize,
+    pub commands: usize,
+    pub messages: usize,
+    pub turns: usize,
+}
+
+/// Whose a secret is. "owner `A` or `B`"; on a sheet of form 1 secrets have no owner's name, and are
+/// `H`'s.
+#[derive(Debug, Clone, Copy, PartialEq, Eq, PartialOrd, Ord)]
+pub enum Owner {
+    H,
+    A,
+    B,
+}
+
+impl Owner {
+    pub fn letter(self) -> u8 {
+        match self {
+            Owner::H => b'H',
+            Owner::A => b'A',
+            Owner::B => b'B',
+        }
+    }
+}
+
+/// A secret key: what others see in place of its entries, and who sees these.
+#[derive(Debug, Clone, Copy, PartialEq, Eq)]
+pub struct Secret {
+    pub dummy: i32,
+    pub owner: Owner,
+}
+
 /// What an accepted sheet says.
 #[derive(Debug, Clone, PartialEq, Eq)]
 pub struct Job {
+    pub form: Form,
     /// K. "Keys are 0 to K-1."
     pub keys: usize,
-    /// One place per key: the dummy of a secret key. "Every other key is open", and has `None`.
-    pub secrets: Vec<Option<i32>>,
+    /// One place per key. "Every other key is open", and has `None`.
+    pub secrets: Vec<Option<Secret>>,
     /// The `do=` lines, "numbered from 0".
     pub commands: Vec<Command>,
     /// The `msg=` lines, one place per key; `None` where the line lacks the key.
@@ -56,13 +145,30 @@ impl Job {
     pub fn line_length(&self) -> usize {
         10 + 12 * self.keys
     }
+
+    /// The secret at a key, if it is one of this owner's.
+    pub fn secret_of(&self, owner: Owner, key: usize) -> Option<Secret> {
+        self.secrets[key].filter(|secret| secret.owner == owner)
+    }
 }
 
-/// A letter of `turns=`: `L` or `H`.
+/// A letter of `turns=`, and the execution whose turn it is: the low one, or the one of an owner.
 #[derive(Debug, Clone, Copy, PartialEq, Eq)]
 pub enum Level {
     Low,
-    High,
+    Of(Owner),
+}
+
+/// Document 01's high execution.
+pub const HIGH: Level = Level::Of(Owner::H);
+
+impl Level {
+    pub fn letter(self) -> u8 {
+        match self {
+            Level::Low => b'L',
+            Level::Of(owner) => owner.letter(),
+        }
+    }
 }
 
 /// One row of the table of commands. Parts stand in the order of the words: `v`, `w` are
@@ -116,7 +222,7 @@ impl Command {
     }
 }
 
-/// Why a sheet is not accepted: the refusal number, from 1 to 9, and the line it names.
+/// Why a sheet is not accepted: the refusal number, from 1 to 9 or 46, and the line it names.
 #[derive(Debug, Clone, Copy, PartialEq, Eq)]
 pub struct Refusal {
     pub number: u32,
@@ -160,7 +266,7 @@ pub fn class(byte: u8) -> Class {
 }
 
 // ---------------------------------------------------------------------------------------------
-// From the input: refusals 1 to 9
+// From the input: refusals 1 to 9, and 46
 // ---------------------------------------------------------------------------------------------
 
 /// Reads a sheet. "Order: ... 1, 2 over the whole sheet, then line by line from the top ... 7 comes
@@ -272,6 +378,7 @@ impl Reader {
             secret_before: None,
             command_lines: Vec::new(),
             job: Job {
+                form: Form::One,
                 keys: 0,
                 secrets: Vec::new(),
                 commands: Vec::new(),
@@ -291,15 +398,12 @@ impl Reader {
             return Err(8);
         }
         match name {
-            // 4: "the 1 of `sheet`".
-            Name::Sheet => {
-                number(rest, 1, 1)?;
-            }
+            Name::Sheet => self.job.form = form(rest)?,
             Name::Keys => self.take_keys(rest)?,
             Name::Secret => self.take_secret(rest)?,
             Name::Do => self.take_command(line, rest)?,
             Name::Msg => self.job.messages.push(message(rest, self.job.keys)?),
-            Name::Turns => self.job.turns = turns(rest)?,
+            Name::Turns => self.job.turns = turns(rest, self.job.form)?,
         }
         self.before = Some(name);
         Ok(())
@@ -311,32 +415,42 @@ impl Reader {
     /// else 1,024 letters could not stand. There is no such limit on `secret` lines: a ninth cannot
     /// have a key both greater than the one before it and below K, so it gets 4 or 5.
     fn one_too_many(&self, name: Name, rest: &[u8]) -> bool {
+        let limits = self.job.form.limits();
         match name {
-            Name::Do => self.job.commands.len() == MOST_COMMANDS,
-            Name::Msg => self.job.messages.len() == MOST_MESSAGES,
-            Name::Turns => rest.len() > MOST_TURNS,
+            Name::Do => self.job.commands.len() == limits.commands,
+            Name::Msg => self.job.messages.len() == limits.messages,
+            Name::Turns => rest.len() > limits.turns,
             Name::Sheet | Name::Keys | Name::Secret => false,
         }
     }
 
     /// "`keys=K`, once, K from 1 to 8." Reading: 0 is "beyond its limit" just as 9 is.
     fn take_keys(&mut self, rest: &[u8]) -> Result<(), u32> {
-        self.job.keys = small(rest, 1, MOST_KEYS)?;
+        self.job.keys = small(rest, 1, self.job.form.limits().keys)?;
         self.job.secrets = vec![None; self.job.keys];
         Ok(())
     }
 
     /// "`secret=key:dummy`, none or more, keys rising." Reading: the keys rise from one `secret`
     /// line to the next. What stands after `secret=` is one part; a comma does not divide it.
+    ///
+    /// Note 8: on a sheet of form 2 it reads `secret=key:dummy:owner`.
     fn take_secret(&mut self, rest: &[u8]) -> Result<(), u32> {
-        let (key, dummy) = entry(rest, self.job.keys, self.secret_before)?;
-        self.job.secrets[key] = Some(dummy);
+        let (key_and_dummy, letter) = match self.job.form {
+            Form::One => (rest, None),
+            Form::Two => split_owner(rest).map(|(front, letter)| (front, Some(letter)))?,
+        };
+        let (key, dummy) = entry(key_and_dummy, self.job.keys, self.secret_before)?;
+        let owner = letter.map_or(Ok(Owner::H), owner)?;
+        self.job.secrets[key] = Some(Secret { dummy, owner });
         self.secret_before = Some(key);
         Ok(())
     }
 
     fn take_command(&mut self, line: u32, rest: &[u8]) -> Result<(), u32> {
-        self.job.commands.push(command(rest, self.job.keys)?);
+        let most_commands = self.job.form.limits().commands;
+        let command = command(rest, self.job.keys, most_commands)?;
+        self.job.commands.push(command);
         self.command_lines.push(line);
         Ok(())
     }
@@ -362,6 +476,30 @@ impl Reader {
             }
         }
         Ok(())
+    }
+}
+
+/// 4: "the 1 of `sheet`". Note 8: "Refusal 4 allows 1 or 2 for `sheet`".
+fn form(text: &[u8]) -> Result<Form, u32> {
+    Form::of(small(text, 1, 2)?).ok_or(4)
+}
+
+/// Note 8: "a secret line divides at its first two colons and, lacking either, gets 4, before its key".
+/// What stands before the second colon, and what stands behind it. Reading: the rest of the line is the
+/// owner, further colons too.
+fn split_owner(text: &[u8]) -> Result<(&[u8], &[u8]), u32> {
+    let is_colon = |&place: &usize| text[place] == b':';
+    let second = (0..text.len()).filter(is_colon).nth(1).ok_or(4u32)?;
+    Ok((&text[..second], &text[second + 1..]))
+}
+
+/// "46, after the dummy, for an owner that is neither letter". Reading: an owner is one of the two
+/// letters and nothing else, so an empty one and a longer one get 46 too.
+fn owner(text: &[u8]) -> Result<Owner, u32> {
+    match text {
+        b"A" => Ok(Owner::A),
+        b"B" => Ok(Owner::B),
+        _ => Err(46),
     }
 }
 
@@ -413,9 +551,10 @@ fn key(text: &[u8], keys: usize) -> Result<usize, u32> {
     small(text, 0, keys - 1)
 }
 
-/// "t a target from 0 to the count of commands"; here "t up to 64", the rest is refusal 7.
-fn target(text: &[u8]) -> Result<usize, u32> {
-    small(text, 0, MOST_COMMANDS)
+/// "t a target from 0 to the count of commands"; here "t up to 64", the most commands that there may be,
+/// and the rest is refusal 7.
+fn target(text: &[u8], most_commands: usize) -> Result<usize, u32> {
+    small(text, 0, most_commands)
 }
 
 /// "Dummies and message values have the full range above." Reading: so has the n of `set`.
@@ -456,16 +595,13 @@ fn message(rest: &[u8], keys: usize) -> Result<Vec<Option<i32>>, u32> {
     Ok(entries)
 }
 
-/// 9: "no byte after `turns=`, or one other than `L` and `H`".
-fn turns(rest: &[u8]) -> Result<Vec<Level>, u32> {
+/// 9: "no byte after `turns=`, or one other than `L` and `H`". Note 8: "9 tests the new letters".
+/// Reading: on a sheet of form 2 these are `L`, `A` and `B`, and `H` is none of them.
+fn turns(rest: &[u8], form: Form) -> Result<Vec<Level>, u32> {
     if rest.is_empty() {
         return Err(9);
     }
-    let level = |&byte: &u8| match byte {
-        b'L' => Ok(Level::Low),
-        b'H' => Ok(Level::High),
-        _ => Err(9),
-    };
+    let level = |&byte: &u8| form.level(byte).ok_or(9);
     rest.iter().map(level).collect()
 }
 
@@ -478,7 +614,8 @@ fn turns(rest: &[u8]) -> Result<Vec<Level>, u32> {
 /// 6: "a command word is not in the table, or the count of parts is wrong; every space splits".
 /// Reading: the word is a part too, and a part may be empty; so `stop` with a space after it has
 /// two parts and gets 6, and `set 0 ` has three parts, of which the last is no number, and gets 4.
-pub(crate) fn command(text: &[u8], keys: usize) -> Result<Command, u32> {
+pub(crate) fn command(text: &[u8], keys: usize, most_commands: usize) -> Result<Command, u32> {
+    let target = |text: &[u8]| target(text, most_commands);
     let command = match parts(text).as_slice() {
         [b"set", v, n] => Command::Set(variable(v)?, value(n)?),
         [b"add", v, w] => Command::Add(variable(v)?, variable(w)?),
@@ -585,7 +722,7 @@ fn quotient(v: i32, w: i32) -> Outcome {
 }
 
 // ---------------------------------------------------------------------------------------------
-// Two executions and one message
+// The executions and one message
 // ---------------------------------------------------------------------------------------------
 
 /// "Each execution has its place and eight variables, all 0 at first." Each counts its own clamped
@@ -603,10 +740,28 @@ pub(crate) const FIRST: Execution = Execution {
     clamped: 0,
 };
 
-/// "Both share one message. At each key it has a low field and a high field."
-struct Message {
-    low: Vec<Option<i32>>,
-    high: Vec<Option<i32>>,
+/// One field per key. "At each key it has a low field and a high field", and by Note 8, whose "three
+/// executions" see a message line each in its own way, a field for each of them.
+type Fields = Vec<Option<i32>>;
+
+/// What an execution sees of a message line, or of none. The executions "share one message", and
+/// `receive` "fills all fields".
+fn fields_of(job: &Job, line: Option<&Vec<Option<i32>>>, level: Level) -> Fields {
+    let Some(line) = line else {
+        // "With no line left, every field becomes absent", which Note 8 says again. Reading: the field of
+        // a dummy too; it stands in for a line only.
+        return vec![None; job.keys];
+    };
+    let field = |key: usize| match job.secrets[key] {
+        // "at an open key both fields are the entry or absent". Reading: of form 2, all three.
+        None => line[key],
+        // "and the high field is the entry or absent"; "A's sees A's entries".
+        Some(secret) if level == Level::Of(secret.owner) => line[key],
+        // "At a secret key the low field is the dummy, whether or not the line has that key"; "and B's
+        // dummies, whether or not the line has those keys, and B's the reverse".
+        Some(secret) => Some(secret.dummy),
+    };
+    (0..job.keys).map(field).collect()
 }
 
 /// One step of one execution. `fields` are its own: "The low execution reads and changes only low
@@ -648,7 +803,7 @@ pub(crate) fn step(
     execution
 }
 
-/// When a call of the high execution moves on.
+/// When a call of an execution that follows the low one moves on.
 #[derive(Debug, Clone, Copy, PartialEq, Eq)]
 pub enum CallRule {
     /// Note 2: "only if the j-th low call has been made and was of the same kind". The rule of every
@@ -660,16 +815,120 @@ pub enum CallRule {
 }
 
 /// What happened in a run that no answer says. For tests that ask what random sheets reach.
-#[derive(Debug, Clone, Copy, PartialEq, Eq, Default)]
+#[derive(Debug, Clone, PartialEq, Eq)]
 pub struct Unreported {
-    /// H turns that passed idle because the low call of that number was of the other kind.
-    pub idle_by_kind: usize,
-    /// The clamped results of the high execution.
-    pub high_clamped: usize,
+    /// Each owner's execution, in the order of the form's owners.
+    pub followers: Vec<Followed>,
+    /// The place of the low execution after the last turn.
+    pub low_place: usize,
+    /// Whether after some turn no two executions were at one place: of form 2, at three places.
+    pub all_apart: bool,
     /// Results of the low execution that are an end of the range and were not clamped.
     pub low_at_an_end: usize,
     /// Times that the low execution divided by zero.
     pub low_zero_divisors: usize,
+}
+
+/// What an owner's execution did in a run.
+#[derive(Debug, Clone, Copy, PartialEq, Eq)]
+pub struct Followed {
+    pub owner: Owner,
+    /// Its place after the last turn.
+    pub place: usize,
+    /// How many calls it has moved on from.
+    pub calls: usize,
+    /// Turns that passed idle because the low call of that number was not made yet.
+    pub idle_by_count: usize,
+    /// Turns that passed idle because the low call of that number was of the other kind.
+    pub idle_by_kind: usize,
+    /// Turns that passed idle because it had stopped.
+    pub idle_at_the_end: usize,
+    /// Its clamped results.
+    pub clamped: usize,
+}
+
+impl Unreported {
+    /// What the execution of an owner did, who must be one of the form's.
+    pub fn of(&self, owner: Owner) -> Followed {
+        let mut followers = self.followers.iter();
+        let followed = followers.find(|followed| followed.owner == owner);
+        *followed.expect("the form has this owner")
+    }
+
+    /// Turns that passed idle because the low call of that number was of the other kind.
+    pub fn idle_by_kind(&self) -> usize {
+        self.followers.iter().map(|f| f.idle_by_kind).sum()
+    }
+
+    /// The clamped results that no answer counts.
+    pub fn clamped(&self) -> usize {
+        self.followers.iter().map(|f| f.clamped).sum()
+    }
+}
+
+/// An owner's execution, its fields of the message, and what it did.
+struct Follower {
+    execution: Execution,
+    fields: Fields,
+    did: Followed,
+}
+
+impl Follower {
+    fn first(owner: Owner, keys: usize) -> Follower {
+        Follower {
+            execution: FIRST,
+            fields: vec![None; keys],
+            did: Followed {
+                owner,
+                place: 0,
+                calls: 0,
+                idle_by_count: 0,
+                idle_by_kind: 0,
+                idle_at_the_end: 0,
+                clamped: 0,
+            },
+        }
+    }
+
+    /// "The high execution does its command", or "the turn passes idle". Note 8: "Each waits for the low
+    /// one as the high one did." Reading: by its own count of calls.
+    fn turn(&mut self, rule: CallRule, commands: &[Command], low_calls: &[Command]) {
+        // "A stopped high execution also idles."
+        let Some(&command) = commands.get(self.execution.place) else {
+            self.did.idle_at_the_end += 1;
+            return;
+        };
+        if command.is_call() {
+            if !self.moves_on(rule, command, low_calls) {
+                return;
+            }
+            self.did.calls += 1;
+        }
+        // "A `receive` or `send` of its own has no effect but to move it on."
+        self.execution = step(self.execution, command, &mut self.fields, commands.len());
+        self.did.place = self.execution.place;
+        self.did.clamped = self.execution.clamped;
+    }
+
+    /// Note 2: "the j-th high call moves on only if the j-th low call has been made and was of the
+    /// same kind."
+    fn moves_on(&mut self, rule: CallRule, call: Command, low_calls: &[Command]) -> bool {
+        // "(j from 1)". Reading: a call that waits is not made yet, so j is one more than the calls
+        // it has moved on from. The list of the low calls counts from 0.
+        let j = self.did.calls + 1;
+        let Some(&low_call) = low_calls.get(j - 1) else {
+            self.did.idle_by_count += 1;
+            return false;
+        };
+        // "If the kinds differ, the high execution idles for the rest of the run." Reading: this
+        // follows, since a turn that passes idle leaves `call` and j as they are, and no later turn
+        // changes the j-th low call. Of form 2, one of the two may idle so and the other go on.
+        if low_call != call && rule == CallRule::SameKind {
+            self.did.idle_by_kind += 1;
+            return false;
+        }
+        true
+    }
 }
 
 /// All that a run keeps.
@@ -678,45 +937,43 @@ struct Run<'a> {
     rule: CallRule,
     output: &'a mut [u8],
     low: Execution,
-    high: Execution,
+    low_fields: Fields,
     /// The calls that the low execution has made, in their order.
     low_calls: Vec<Command>,
-    /// How many calls the high execution has moved on from.
-    high_calls: usize,
-    message: Message,
+    /// One for each owner of the form: of form 1 the high execution, and by Note 8 "There are three
+    /// executions".
+    followers: Vec<Follower>,
     positions: usize,
     low_steps: usize,
     written: usize,
     taken: usize,
-    unreported: Unreported,
+    all_apart: bool,
+    low_at_an_end: usize,
+    low_zero_divisors: usize,
 }
 
 impl<'a> Run<'a> {
     /// "All fields are absent at first."
     fn first(job: &'a Job, rule: CallRule, output: &'a mut [u8]) -> Run<'a> {
+        let owners = job.form.owners().iter();
         Run {
             job,
             rule,
             output,
             low: FIRST,
-            high: FIRST,
+            low_fields: vec![None; job.keys],
             low_calls: Vec::new(),
-            high_calls: 0,
-            message: Message {
-                low: vec![None; job.keys],
-                high: vec![None; job.keys],
-            },
+            followers: owners
+                .map(|&owner| Follower::first(owner, job.keys))
+                .collect(),
             positions: 0,
             low_steps: 0,
             written: 0,
             taken: 0,
-            unreported: Unreported::default(),
+            all_apart: false,
+            low_at_an_end: 0,
+            low_zero_divisors: 0,
         }
-    }
-
-    /// "An execution at the end has stopped", and has no command.
-    fn command(&self, execution: &Execution) -> Option<Command> {
-        self.job.commands.get(execution.place).copied()
     }
 
     /// "The low execution does its command."
@@ -731,7 +988,7 @@ impl<'a> Run<'a> {
         }
         let end = self.job.commands.len();
         let before = self.low;
-        self.low = step(before, command, &mut self.message.low, end);
+        self.low = step(before, command, &mut self.low_fields, end);
         self.low_steps += 1;
         self.look_at_low_result(command, &before);
     }
@@ -745,29 +1002,19 @@ impl<'a> Run<'a> {
         };
         let at_an_end = matches!(self.low.variables[v], i32::MIN | i32::MAX);
         if at_an_end && self.low.clamped == before.clamped {
-            self.unreported.low_at_an_end += 1;
+            self.low_at_an_end += 1;
         }
         if command == Command::Div(v, w) && before.variables[w] == 0 {
-            self.unreported.low_zero_divisors += 1;
+            self.low_zero_divisors += 1;
         }
     }
 
     /// "`receive` takes the next message line and fills all fields".
     fn receive(&mut self) {
         let line = self.job.messages.get(self.taken);
-        for key in 0..self.job.keys {
-            let (low, high) = match (line, self.job.secrets[key]) {
-                // "at an open key both fields are the entry or absent".
-                (Some(line), None) => (line[key], line[key]),
-                // "At a secret key the low field is the dummy, whether or not the line has that
-                // key, and the high field is the entry or absent."
-                (Some(line), Some(dummy)) => (Some(dummy), line[key]),
-                // "With no line left, every field becomes absent." Reading: the low field of a
-                // secret key too; the dummy stands in for a line only.
-                (None, _) => (None, None),
-            };
-            self.message.low[key] = low;
-            self.message.high[key] = high;
+        self.low_fields = fields_of(self.job, line, Level::Low);
+        for follower in &mut self.followers {
+            follower.fields = fields_of(self.job, line, Level::Of(follower.did.owner));
         }
         // "Messages taken counts lines, so a `receive` with none left adds nothing." Reading: it is
         // a call all the same, of this kind, and a high `receive` may follow it.
@@ -778,47 +1025,44 @@ impl<'a> Run<'a> {
 
     /// "`send` writes one line ... The message is unchanged by it."
     fn send(&mut self) {
-        let line = sent_line(self.positions, &sent_fields(self.job, &self.message));
+        let fields: Fields = (0..self.job.keys).map(|key| self.sent_field(key)).collect();
+        let line = sent_line(self.positions, &fields);
         let end = self.written + line.len();
         self.output[self.written..end].copy_from_slice(line.as_bytes());
         self.written = end;
     }
 
-    /// "The high execution does its command", or "the turn passes idle".
-    fn high_turn(&mut self) {
-        // "A stopped high execution also idles."
-        let Some(command) = self.command(&self.high) else {
-            return;
-        };
-        if command.is_call() {
-            if !self.moves_on(command) {
-                return;
+    /// "open keys from the low fields, secret keys from the high fields". Note 8: "A secret column comes
+    /// from its owner's execution."
+    fn sent_field(&self, key: usize) -> Option<i32> {
+        match self.job.secrets[key] {
+            None => self.low_fields[key],
+            Some(secret) => {
+                let owns = |follower: &&Follower| follower.did.owner == secret.owner;
+                let follower = self.followers.iter().find(owns);
+                follower.expect("the form has this owner").fields[key]
             }
-            self.high_calls += 1;
         }
-        // "A `receive` or `send` of its own has no effect but to move it on."
-        let end = self.job.commands.len();
-        self.high = step(self.high, command, &mut self.message.high, end);
-        self.unreported.high_clamped = self.high.clamped;
     }
 
-    /// Note 2: "the j-th high call moves on only if the j-th low call has been made and was of the
-    /// same kind."
-    fn moves_on(&mut self, call: Command) -> bool {
-        // "(j from 1)". Reading: a call that waits is not made yet, so j is one more than the calls
-        // it has moved on from. The list of the low calls counts from 0.
-        let j = self.high_calls + 1;
-        let Some(&low_call) = self.low_calls.get(j - 1) else {
-            return false;
-        };
-        // "If the kinds differ, the high execution idles for the rest of the run." Reading: this
-        // follows, since a turn that passes idle leaves `call` and j as they are, and no later turn
-        // changes the j-th low call.
-        if low_call != call && self.rule == CallRule::SameKind {
-            self.unreported.idle_by_kind += 1;
-            return false;
+    /// The turn of an owner's execution.
+    fn turn_of(&mut self, owner: Owner) {
+        let owns = |follower: &&mut Follower| follower.did.owner == owner;
+        let follower = self.followers.iter_mut().find(owns);
+        let follower = follower.expect("the form has this owner");
+        follower.turn(self.rule, &self.job.commands, &self.low_calls);
+    }
+
+    /// Sees whether no two executions are at one place.
+    fn look_at_places(&mut self) {
+        if self.all_apart {
+            return;
         }
-        true
+        let followers = self.followers.iter().map(|f| f.execution.place);
+        let mut places: Vec<usize> = followers.chain([self.low.place]).collect();
+        places.sort_unstable();
+        places.dedup();
+        self.all_apart = places.len() == self.followers.len() + 1;
     }
 
     fn answer(&self, ending: u32) -> [u32; NUMBERS] {
@@ -834,15 +1078,16 @@ impl<'a> Run<'a> {
             self.low.clamped as u32,
         ]
     }
-}
 
-/// "open keys from the low fields, secret keys from the high fields".
-fn sent_fields(job: &Job, message: &Message) -> Vec<Option<i32>> {
-    let field = |key: usize| match job.secrets[key] {
-        None => message.low[key],
-        Some(_) => message.high[key],
-    };
-    (0..job.keys).map(field).collect()
+    fn unreported(&self) -> Unreported {
+        Unreported {
+            followers: self.followers.iter().map(|f| f.did).collect(),
+            low_place: self.low.place,
+            all_apart: self.all_apart,
+            low_at_an_end: self.low_at_an_end,
+            low_zero_divisors: self.low_zero_divisors,
+        }
+    }
 }
 
 /// "A sent line is `sent=`, the position in four digits, then for each key a space and 11
@@ -873,9 +1118,16 @@ fn column(field: Option<i32>) -> String {
 /// from 10 + 12 × k to 20 + 12 × k for a secret key k." All else is under the secrecy rule, which by
 /// Note 3 "covers the new number".
 pub fn in_secret_column(job: &Job, place: usize, written: usize) -> bool {
+    let mut owners = job.form.owners().iter();
+    owners.any(|&owner| in_column_of(job, owner, place, written))
+}
+
+/// The same for the secret keys of one owner. Note 8: "if only B's entries differ, everything outside B's
+/// columns is equal, and likewise for A".
+pub fn in_column_of(job: &Job, owner: Owner, place: usize, written: usize) -> bool {
     let remainder = place % job.line_length();
     let in_column = |k: usize| (10 + 12 * k..=20 + 12 * k).contains(&remainder);
-    place < written && (0..job.keys).any(|k| job.secrets[k].is_some() && in_column(k))
+    place < written && (0..job.keys).any(|k| job.secret_of(owner, k).is_some() && in_column(k))
 }
 
 // ---------------------------------------------------------------------------------------------
@@ -893,7 +1145,7 @@ pub fn run(job: &Job, output: &mut [u8]) -> [u32; NUMBERS] {
 pub fn run_by(rule: CallRule, job: &Job, output: &mut [u8]) -> ([u32; NUMBERS], Unreported) {
     let mut run = Run::first(job, rule, output);
     let ending = take_turns(&mut run);
-    (run.answer(ending), run.unreported)
+    (run.answer(ending), run.unreported())
 }
 
 /// Takes turn after turn, and gives the number of the ending.
@@ -902,7 +1154,7 @@ fn take_turns(run: &mut Run) -> u32 {
     // "Before each turn ... They are tested in that order."
     loop {
         // 0: "the low execution has stopped".
-        let Some(command) = run.command(&run.low) else {
+        let Some(&command) = job.commands.get(run.low.place) else {
             return 0;
         };
         // 31: "it has not, and all letters are used".
@@ -917,10 +1169,11 @@ fn take_turns(run: &mut Run) -> u32 {
         }
         match letter {
             Level::Low => run.low_turn(command),
-            Level::High => run.high_turn(),
+            Level::Of(owner) => run.turn_of(owner),
         }
         // "Positions used counts the letters whose turns were taken, idle ones included".
         run.positions += 1;
+        run.look_at_places();
     }
 }
 

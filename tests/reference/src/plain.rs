@@ -6,7 +6,9 @@
 //! Words between quotation marks are the note's own. A comment that begins with "Reading:" names the
 //! reading taken where the text leaves a choice, or seems to leave one.
 
-use crate::model::{sent_line, step, Command, Execution, Job, Level, FIRST, MOST_TURNS, VARIABLES};
+use crate::model::{
+    sent_line, step, Command, Execution, Job, Level, Secret, FIRST, HIGH, MOST_TURNS, VARIABLES,
+};
 use std::slice::Iter;
 
 /// "Take N from 1 to 512": so many steps have a turn for each of the two executions.
@@ -27,13 +29,12 @@ pub enum Step {
     Sends(Vec<Option<i32>>),
 }
 
-/// N of a job whose turns are "N times LH", if they are.
+/// N of a job whose turns are "N times LH", if they are. Reading: the note speaks of sheets of form 1, which
+/// alone have turns of `H`.
 pub fn steps_of(job: &Job) -> Option<usize> {
     let pairs = job.turns.chunks(2);
     let steps = pairs.len();
-    let all = pairs
-        .into_iter()
-        .all(|pair| pair == [Level::Low, Level::High]);
+    let all = pairs.into_iter().all(|pair| pair == [Level::Low, HIGH]);
     (all && (1..=MOST_STEPS).contains(&steps)).then_some(steps)
 }
 
@@ -118,7 +119,10 @@ pub fn plain_run(job: &Job, messages: &Lines, steps: usize) -> Vec<Step> {
 /// "the same messages where every secret key of each message line holds its dummy". Reading: also
 /// where the line lacks the key; there are as many lines as before.
 pub fn dummied(job: &Job) -> Vec<Vec<Option<i32>>> {
-    let entry = |(entry, dummy): (&Option<i32>, &Option<i32>)| dummy.or(*entry);
+    let entry = |(entry, secret): (&Option<i32>, &Option<Secret>)| {
+        let dummy = secret.map(|secret| secret.dummy);
+        dummy.or(*entry)
+    };
     let line = |line: &Vec<Option<i32>>| line.iter().zip(&job.secrets).map(entry).collect();
     job.messages.iter().map(line).collect()
 }
@@ -177,7 +181,7 @@ pub fn open_entries<'a>(
     job: &'a Job,
     entries: &'a [Option<i32>],
 ) -> impl Iterator<Item = &'a Option<i32>> {
-    let open = |(_, secret): &(_, &Option<i32>)| secret.is_none();
+    let open = |(_, secret): &(_, &Option<Secret>)| secret.is_none();
     entries
         .iter()
         .zip(&job.secrets)

@@ -1,20 +1,23 @@
 //! The reference model of Note 7 of document 02, "Save the sheet from the screen": a record of plain
-//! numbers becomes a sheet, and a sheet a record.
+//! numbers becomes a sheet, and a sheet a record. Note 8: "The writer of Note 7 takes both forms, each with
+//! its own letters and limits."
 //!
 //! Words between quotation marks are the note's own. A comment that begins with "Reading:" names
 //! the reading taken where the text leaves a choice, or seems to leave one.
 
+use crate::model;
 use crate::model::{
-    numbers_line, read, write_numbers, Command, Job, Level, MOST_COMMANDS, MOST_KEYS,
-    MOST_MESSAGES, MOST_TURNS, VARIABLES,
+    numbers_line, read, write_numbers, Command, Form, Job, Limits, Owner, VARIABLES,
 };
 use std::collections::BTreeSet;
 
 /// Both answer memories: "number and bytes" of a record that is written, number and line of a sheet
 /// that is read.
 pub const ANSWER_BYTES: usize = 8;
-/// No sheet of a record is longer.
-pub const LONGEST: usize = 6_270;
+/// No sheet of a record of form 1 is longer.
+pub const LONGEST_OF_FORM_1: usize = 6_270;
+/// No sheet of any record is longer: of form 2 each of the eight secret lines has a colon and an owner more.
+pub const LONGEST: usize = LONGEST_OF_FORM_1 + 8 * 2;
 /// The bytes of a record.
 pub const RECORD_BYTES: usize = 11_608;
 
@@ -262,8 +265,25 @@ impl Coded {
     }
 }
 
+/// The owner that this number is in a record of this form. Reading: of form 1 a secret has no owner's name,
+/// and the number is 0; of form 2 it is the byte of the owner's letter.
+pub fn owner_of(form: Form, number: u32) -> Option<Owner> {
+    let owners = form.owners().iter().copied();
+    let mut named = owners.map(|owner| (owner, owner_number(owner)));
+    let found = named.find(|&(_, named)| named == number);
+    found.map(|(owner, _)| owner)
+}
+
+fn owner_number(owner: Owner) -> u32 {
+    match owner {
+        Owner::H => 0,
+        Owner::A | Owner::B => owner.letter().into(),
+    }
+}
+
 /// Why a record gets 54: "a number or count in the record is outside its limits in document 01, a turn
-/// letter is neither `L` nor `H`, keys don't rise, or a target exceeds the count of commands".
+/// letter is neither `L` nor `H`, keys don't rise, or a target exceeds the count of commands"; by Note 8
+/// each form "with its own letters and limits".
 #[derive(Debug, Clone, Copy, PartialEq, Eq, PartialOrd, Ord)]
 pub enum Fault {
     Form,
@@ -291,25 +311,38 @@ pub enum Fault {
 /// Every kind of fault of a record, in what its counts cover.
 pub fn faults(record: &Record) -> BTreeSet<Fault> {
     let mut found = Found(BTreeSet::new());
-    found.test(record.form == 1, Fault::Form);
-    found.test(within(record.keys, 1, MOST_KEYS), Fault::Keys);
-    found.test_secrets(record);
+    let form = form_of(record);
+    found.test(form.is_some(), Fault::Form);
+    let limits = limits_of(form);
+    found.test(within(record.keys, 1, limits.keys), Fault::Keys);
+    found.test_secrets(record, form);
     let count = record.command_count;
-    found.test(within(count, 1, MOST_COMMANDS), Fault::CommandCount);
+    found.test(within(count, 1, limits.commands), Fault::CommandCount);
     for command in record.commands() {
         found.test_command(command, record);
     }
     let count = record.message_count;
-    found.test(within(count, 0, MOST_MESSAGES), Fault::MessageCount);
+    found.test(within(count, 0, limits.messages), Fault::MessageCount);
     for message in record.messages() {
         found.test_message(message, record.keys);
     }
     let count = record.letter_count;
-    found.test(within(count, 1, MOST_TURNS), Fault::LetterCount);
-    for letter in record.letters() {
-        found.test(matches!(letter, b'L' | b'H'), Fault::Letter);
+    found.test(within(count, 1, limits.turns), Fault::LetterCount);
+    for &letter in record.letters() {
+        let stands = form.is_none_or(|form| form.level(letter).is_some());
+        found.test(stands, Fault::Letter);
     }
     found.0
+}
+
+/// The form of a record, if its number is that of one.
+pub fn form_of(record: &Record) -> Option<Form> {
+    Form::of(record.form as usize)
+}
+
+/// The limits of a form. Without a form a record is refused whatever else it holds, and by those of form 2.
+fn limits_of(form: Option<Form>) -> Limits {
+    form.unwrap_or(Form::Two).limits()
 }
 
 fn within(count: u32, lowest: usize, highest: usize) -> bool {
@@ -327,14 +360,14 @@ impl Found {
     }
 
     /// Reading: a secret line has a key of its own, so there are at most K.
-    fn test_secrets(&mut self, record: &Record) {
+    fn test_secrets(&mut self, record: &Record, form: Option<Form>) {
         let (count, keys) = (record.secret_count, record.keys);
         let fits = count <= keys && within(count, 0, SECRETS);
         self.test(fits, Fault::SecretCount);
         for secret in record.secrets() {
             self.test(secret.key < keys, Fault::SecretKey);
-            // Reading: in a sheet of form 1 a secret has no owner, and the number is 0.
-            self.test(secret.owner == 0, Fault::Owner);
+            let owned = form.is_none_or(|form| owner_of(form, secret.owner).is_some());
+            self.test(owned, Fault::Owner);
         }
         let rises = |two: &[Secret]| two[0].key < two[1].key;
         self.test(record.secrets().windows(2).all(rises), Fault::SecretOrder);
@@ -380,8 +413,12 @@ impl Found {
 /// The text of a record, line by line. Of one with faults it is no sheet of that record.
 pub fn text(record: &Record) -> Vec<u8> {
     let mut text = format!("sheet={}\nkeys={}\n", record.form, record.keys);
-    for secret in record.secrets() {
-        text += &format!("secret={}:{}\n", secret.key, secret.dummy);
+    for &Secret { key, dummy, owner } in record.secrets() {
+        text += &format!("secret={key}:{dummy}");
+        if record.form == 2 {
+            text += &format!(":{}", char::from_u32(owner).unwrap_or('?'));
+        }
+        text += "\n";
     }
     for command in record.commands() {
         let (word, operands) = command.row().unwrap_or(&("?", &[]));
@@ -447,11 +484,11 @@ pub fn laid_over(new: &Record, old: &Record) -> Record {
 /// What an accepted sheet says, as a record. Every place that its counts do not cover is 0.
 pub fn record_of(job: &Job) -> Record {
     let mut record = EMPTY;
-    record.form = 1;
+    record.form = job.form.number() as u32;
     record.keys = job.keys as u32;
-    for (key, dummy) in (0..).zip(&job.secrets) {
-        if let &Some(dummy) = dummy {
-            let owner = 0;
+    for (key, secret) in (0..).zip(&job.secrets) {
+        if let &Some(model::Secret { dummy, owner }) = secret {
+            let owner = owner_number(owner);
             record.secrets[record.secret_count as usize] = Secret { key, dummy, owner };
             record.secret_count += 1;
         }
@@ -471,10 +508,7 @@ pub fn record_of(job: &Job) -> Record {
     }
     record.letter_count = job.turns.len() as u32;
     for (letter, level) in record.letters.iter_mut().zip(&job.turns) {
-        *letter = match level {
-            Level::Low => b'L',
-            Level::High => b'H',
-        };
+        *letter = level.letter();
     }
     record
 }
@@ -506,10 +540,12 @@ fn coded_of(command: Command) -> Coded {
 
 /// The job of a record without faults.
 pub fn job_of(record: &Record) -> Job {
+    let form = form_of(record).expect("it has a form");
     let keys = record.keys as usize;
     let mut secrets = vec![None; keys];
-    for secret in record.secrets() {
-        secrets[secret.key as usize] = Some(secret.dummy);
+    for &Secret { key, dummy, owner } in record.secrets() {
+        let owner = owner_of(form, owner).expect("it is an owner of this form");
+        secrets[key as usize] = Some(model::Secret { dummy, owner });
     }
     let message = |message: &Message| {
         let mut entries = vec![None; keys];
@@ -518,11 +554,9 @@ pub fn job_of(record: &Record) -> Job {
         }
         entries
     };
-    let level = |letter: &u8| match letter {
-        b'L' => Level::Low,
-        _ => Level::High,
-    };
+    let level = |&letter: &u8| form.level(letter).expect("it is a letter of this form");
     Job {
+        form,
         keys,
         secrets,
         commands: record.commands().iter().map(command_of).collect(),

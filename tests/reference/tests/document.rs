@@ -3,12 +3,13 @@
 use reference::corners::calls::{CALLS, LONG_CALLS};
 use reference::corners::clamps::{CLAMPS, ENDS, LONG_CLAMPS, REFUSED_CLAMPS};
 use reference::corners::{
-    corners, honest_corners, Corner, ARITHMETIC, EXAMPLES, LONG, REFUSED, REFUSED_BODIES, RUNS,
+    corners, honest_corners, owner_corners, Corner, ARITHMETIC, EXAMPLES, LONG, REFUSED,
+    REFUSED_BODIES, RUNS,
 };
 use reference::generate::{
     accepted, accepted_job, damaged, memory_length, noise, secret_pair, sheet_of, Rng, Shape,
 };
-use reference::model::{class, Class, ANSWER_BYTES, LENT, NUMBERS};
+use reference::model::{class, Class, Form, Owner, Secret, ANSWER_BYTES, HIGH, LENT, NUMBERS};
 use reference::{
     c_entry, in_secret_column, printed, read, run_sheet, Command, Job, Level, Refusal,
 };
@@ -43,9 +44,11 @@ fn check(corner: &Corner) {
 
 #[test]
 fn a_sheet_is_read_as_written() {
+    let (dummy, owner) = (-4, Owner::H);
     let job = Job {
+        form: Form::One,
         keys: 2,
-        secrets: vec![None, Some(-4)],
+        secrets: vec![None, Some(Secret { dummy, owner })],
         commands: vec![
             Command::Receive,
             Command::Set(7, 12),
@@ -53,7 +56,7 @@ fn a_sheet_is_read_as_written() {
             Command::Send,
         ],
         messages: vec![vec![Some(5), Some(-6)]],
-        turns: [Level::Low, Level::High, Level::Low, Level::Low, Level::Low].to_vec(),
+        turns: [Level::Low, HIGH, Level::Low, Level::Low, Level::Low].to_vec(),
     };
     assert_eq!(read(SHEET), Ok(job));
 }
@@ -67,7 +70,11 @@ fn every_corner_prints_what_the_document_says() {
     let refused = REFUSED.len() + REFUSED_CLAMPS.len() + REFUSED_BODIES.len();
     let long = LONG.len() + LONG_CALLS.len() + LONG_CLAMPS.len();
     let honest = honest_corners().len();
-    assert_eq!(corners.len(), runs + arithmetic + refused + long + honest);
+    let owners = owner_corners().len();
+    assert_eq!(
+        corners.len(),
+        runs + arithmetic + refused + long + honest + owners
+    );
     corners.iter().for_each(check);
 }
 

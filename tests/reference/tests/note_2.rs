@@ -5,7 +5,7 @@
 use reference::corners::calls::{CALLS, LATE, SAME, WRONG};
 use reference::corners::{Run, EXAMPLES};
 use reference::generate::{accepted_job, memory_length, sheet_of, Rng, Shape};
-use reference::model::{end_line, run_by, CallRule, NUMBERS};
+use reference::model::{end_line, run_by, CallRule, HIGH, NUMBERS};
 use reference::{in_secret_column, read, Job, Level};
 
 /// What the output memory holds before a run.
@@ -25,7 +25,7 @@ impl Ran {
         Ran {
             numbers,
             output,
-            idle_by_kind: unreported.idle_by_kind,
+            idle_by_kind: unreported.idle_by_kind(),
         }
     }
 
@@ -136,7 +136,7 @@ fn a_high_execution_at_the_wrong_call_idles_to_the_end() {
         let first = (0..used.len())
             .find(|&place| idles_by_kind_before(&job, place + 1, lent))
             .expect("the run has such a turn");
-        let high = |letter: &&Level| **letter == Level::High;
+        let high = |letter: &&Level| **letter == HIGH;
         let rest = used[first..].iter().filter(high).count();
         assert_eq!(whole.idle_by_kind, rest);
         tried += 1;

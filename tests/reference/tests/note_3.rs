@@ -9,7 +9,7 @@ use reference::corners::{Run, EXAMPLES};
 use reference::generate::{
     accepted_job, damaged, memory_length, noise, secret_pair, sheet_of, Rng, Shape,
 };
-use reference::model::{run, run_by, CallRule, Unreported, ANSWER_BYTES, LENT, NUMBERS};
+use reference::model::{run, run_by, CallRule, Form, Unreported, ANSWER_BYTES, LENT, NUMBERS};
 use reference::{c_entry, printed, read, run_sheet, Command, Job, Level};
 
 /// What the memories hold before a run.
@@ -52,7 +52,7 @@ fn sums_are_counted_as_they_are_made() {
 fn each_execution_has_a_count_of_its_own() {
     let counts = |corner: &Run| {
         let (low, unreported) = ran_corner(corner);
-        (low, unreported.high_clamped)
+        (low, unreported.clamped())
     };
     assert_eq!(counts(&UNSEEN), (0, 1));
     assert_eq!(counts(&LOW_ALONE), (1, 0));
@@ -122,6 +122,7 @@ const NEAR_THE_ENDS: [i32; 25] = [
 /// Whether a command says that its exact result lay outside the range.
 fn says_clamped(v: i32, command: fn(usize, usize) -> Command, w: i32) -> bool {
     let job = Job {
+        form: Form::One,
         keys: 1,
         secrets: vec![None],
         commands: vec![Command::Set(0, v), Command::Set(1, w), command(0, 1)],
@@ -214,7 +215,7 @@ fn without_its_high_turns_a_run_counts_the_same() {
             continue;
         }
         assert_eq!(run(&alone, &mut vec![FILL; lent])[3..], numbers[3..]);
-        told += usize::from(ran(&job, lent).1.high_clamped > 0);
+        told += usize::from(ran(&job, lent).1.clamped() > 0);
     }
     println!("sheets whose high execution clamps: {told} of 4000");
     assert!(told > 200, "{told}");
@@ -248,7 +249,7 @@ fn the_secrecy_rule_covers_the_new_number() {
         let counts = |sheet: &[u8]| ran(&read(sheet).expect("it is accepted"), lent);
         let ((low, high), (other_low, other_high)) = (counts(&first), counts(&second));
         assert_eq!(low, other_low);
-        different += usize::from(high.high_clamped != other_high.high_clamped);
+        different += usize::from(high.clamped() != other_high.clamped());
     }
     println!("pairs whose high executions clamp differently often: {different} of 4000");
     assert!(different > 80, "{different}");
@@ -290,7 +291,7 @@ fn clamped_results_occur_in_every_shape() {
             let job = accepted_job(&mut rng, shape);
             let lent = memory_length(&mut rng, &sheet_of(&job));
             let (low, unreported) = ran(&job, lent);
-            let high = unreported.high_clamped;
+            let high = unreported.clamped();
             let occurs = [
                 low == 0 && high > 0,
                 low > 0 && high == 0,

@@ -9,7 +9,7 @@ use reference::corners::honest::{
 use reference::corners::{corner_of, honest_corners, long_corner, Corner, EXAMPLES};
 use reference::generate::honest::{job, job_with, Care};
 use reference::generate::{accepted_job, sheet_of, Rng, Shape};
-use reference::model::{run, LENT, NUMBERS};
+use reference::model::{run, Form, Owner, Secret, HIGH, LENT, NUMBERS};
 use reference::plain::{
     dummied, lines, open_entries, plain_run, steps_of, Compared, Lines, Step, MOST_STEPS,
 };
@@ -180,11 +180,18 @@ fn nearly_every_step_may_send() {
     commands[0] = Command::Receive;
     commands.push(Command::Jump(1));
     let job = Job {
+        form: Form::One,
         keys: 8,
-        secrets: vec![Some(0); 8],
+        secrets: vec![
+            Some(Secret {
+                dummy: 0,
+                owner: Owner::H
+            });
+            8
+        ],
         commands,
         messages: vec![(1..=8).map(Some).collect()],
-        turns: [Level::Low, Level::High].repeat(MOST_STEPS),
+        turns: [Level::Low, HIGH].repeat(MOST_STEPS),
     };
     let tried = Tried::of(job);
     assert_eq!(tried.sent.len(), 503 * 106);
@@ -203,7 +210,7 @@ fn turns_are_n_times_lh() {
             if letter == 'L' {
                 Level::Low
             } else {
-                Level::High
+                HIGH
             }
         };
         job.turns = turns.chars().map(letter).collect();
@@ -327,7 +334,7 @@ fn without_secret_keys_every_program_is_honest() {
     for round in 0..1_000 {
         let mut job = accepted_job(&mut rng, Shape::ALL[round % 4]);
         job.secrets = vec![None; job.keys];
-        job.turns = [Level::Low, Level::High].repeat(rng.between(1, MOST_STEPS));
+        job.turns = [Level::Low, HIGH].repeat(rng.between(1, MOST_STEPS));
         let tried = Tried::of(job);
         assert_eq!(tried.compared.real, tried.compared.dummied);
         assert!(tried.honest() && tried.loses_nothing(tried.sent.len()));

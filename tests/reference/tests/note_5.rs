@@ -15,7 +15,7 @@ use reference::corners::blocks::{
 use reference::generate::block_damage::{boundary, damaged, noise};
 use reference::generate::blocks::{accepted, memory_length, messages, Program};
 use reference::generate::Rng;
-use reference::model::MOST_COMMANDS;
+use reference::model::{Form, MOST_COMMANDS};
 use reference::plain::{Plain, Step};
 use reference::{printed, read, Command, Job, Level, Refusal};
 use std::fs;
@@ -162,6 +162,7 @@ fn keys_beyond_their_limit_come_first() {
 /// A job of these commands alone, for plain runs.
 fn job_of(commands: Vec<Command>, keys: usize) -> Job {
     Job {
+        form: Form::One,
         keys,
         secrets: vec![None; keys],
         commands,

@@ -13,7 +13,8 @@ use reference::generate::{Rng, Shape};
 use reference::model::run;
 use reference::record::{
     coded, faults, job_of, laid_over, listing, open, pack, read_entry, record_of, text, unpack,
-    write, write_entry, Fault, Operand, Record, EMPTY, LONGEST, OPERANDS, RECORD_BYTES, WORDS,
+    write, write_entry, Fault, Operand, Record, EMPTY, LONGEST, LONGEST_OF_FORM_1, OPERANDS,
+    RECORD_BYTES, WORDS,
 };
 use reference::{read, run_sheet};
 use std::collections::BTreeMap;
@@ -59,7 +60,7 @@ fn every_corner_gives_what_the_note_says() {
 #[test]
 fn every_sheet_of_the_corners_is_read_as_the_note_says() {
     let opened = opened();
-    for number in [0, 1, 2, 3, 4, 5, 6, 7, 8, 9] {
+    for number in [0, 1, 2, 3, 4, 5, 6, 7, 8, 9, 46] {
         assert!(opened.iter().any(|corner| corner.numbers[0] == number));
     }
     for corner in opened {
@@ -74,7 +75,7 @@ fn every_sheet_of_the_corners_is_read_as_the_note_says() {
     }
 }
 
-/// The worked examples, form 2 left out but for its refusal.
+/// The worked examples of form 1.
 #[test]
 fn the_worked_examples() {
     let record = record_of(&read(SHEET_A).unwrap());
@@ -108,10 +109,12 @@ fn the_worked_examples() {
 
 #[test]
 fn the_longest_sheet_is_reached_and_needs_every_byte() {
-    assert_eq!((longest_sheet().len(), LONGEST), (6_270, 6_270));
-    assert_eq!(filled(&longest(), LONGEST), ([0, 6_270], longest_sheet()));
-    let refused = ([55, 0], vec![FILL; LONGEST - 1]);
-    assert_eq!(filled(&longest(), LONGEST - 1), refused);
+    assert_eq!(longest_sheet().len(), LONGEST_OF_FORM_1);
+    assert_eq!(LONGEST_OF_FORM_1, 6_270);
+    let wanted = ([0, 6_270], longest_sheet());
+    assert_eq!(filled(&longest(), LONGEST_OF_FORM_1), wanted);
+    let refused = ([55, 0], vec![FILL; LONGEST_OF_FORM_1 - 1]);
+    assert_eq!(filled(&longest(), LONGEST_OF_FORM_1 - 1), refused);
 }
 
 #[test]
@@ -371,7 +374,7 @@ fn refusal_54_is_what_no_sheet_can_say() {
 }
 
 /// 54 is the record's alone, 55 comes exactly where the sheet is longer than the memory, a refusal writes
-/// nothing, and no sheet is longer than 6,270 bytes.
+/// nothing, and no sheet is longer than there may be.
 #[test]
 fn memory_decides_nothing_but_55() {
     let mut rng = Rng::new(6);
@@ -667,7 +670,7 @@ fn passing_records_pass() {
         assert_eq!(faults(record).len(), 0, "{}", listing(record));
     }
     let often = |limit: &dyn Fn(&Record) -> bool| records.iter().filter(|r| limit(r)).count() > 20;
-    assert!(often(&|r| text(r).len() == LONGEST));
+    assert!(often(&|r| text(r).len() == LONGEST_OF_FORM_1));
     assert!(often(&|r| text(r).len() < 50));
     assert!(often(
         &|r| r.command_count == 64 && r.commands[63] != coded(0, 7, 0, 0, 0, i32::MIN)

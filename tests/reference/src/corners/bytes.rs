@@ -14,6 +14,10 @@ use crate::model::MOST_BYTES;
 /// An accepted sheet with a line of each name, and a number of each kind.
 pub const SHEET: &[u8] = b"sheet=1\nkeys=2\nsecret=1:-4\ndo=receive\ndo=set 7 12\ndo=ifneg 7 5\n\
 do=put 0 7\ndo=send\nmsg=0:5,1:-6\nturns=LHLLLL\n";
+/// One of form 2, with both owners and all letters.
+pub const SHEET_OF_TWO: &[u8] =
+    b"sheet=2\nkeys=2\nsecret=0:7:A\nsecret=1:-4:B\ndo=receive\ndo=send\n\
+msg=0:5,1:-6\nturns=LABL\n";
 /// An accepted program with blocks of each kind. K is 2.
 pub const PROGRAM: &[u8] =
     b"receive\nhas 0 0\nwhile 0\nread 1 1\nif 1\nset 7 -12\nelse\ndrop 0\nend\nend\n";
@@ -107,7 +111,8 @@ pub const NOT_REFUSED: &[Pieces] = &[
 pub fn sheets() -> Vec<Vec<u8>> {
     let long = [MOST_BYTES - 1, MOST_BYTES];
     let late = with_late_fault(SHEET, &long);
-    all([tables(), short(), late, with_every_byte(SHEET)])
+    let every = [with_every_byte(SHEET), with_every_byte(SHEET_OF_TWO)];
+    all([tables(), short(), late, every.concat()])
 }
 
 /// Programs with blocks. K is 2.

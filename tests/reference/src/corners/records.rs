@@ -2,6 +2,7 @@
 //! the records that they are read into. Nothing here was computed by the model: all was worked out from
 //! the documents.
 
+use super::owner_records;
 use crate::record::{coded, Coded, Entry, Record, Secret, EMPTY};
 
 /// A record, the bytes lent to it, the two numbers, and what stands in the output memory then.
@@ -77,6 +78,7 @@ pub fn passing() -> Vec<(Record, Vec<u8>)> {
     for &(change, sheet) in PASSING_SMALLEST {
         passing.push((changed(smallest(), change), sheet.to_vec()));
     }
+    passing.extend(owner_records::passing());
     passing
 }
 
@@ -92,6 +94,7 @@ pub fn faulty() -> Vec<Record> {
     faulty.extend(changes(longest, FAULTS_LONGEST));
     faulty.extend(changes(smallest, FAULTS_SMALLEST));
     faulty.extend(lacking());
+    faulty.extend(owner_records::faulty());
     faulty
 }
 
@@ -190,7 +193,7 @@ pub fn smallest() -> Record {
     record
 }
 
-/// No sheet of a record is longer: every count is at its limit, and every number as long as it can be.
+/// No sheet of a record of form 1 is longer: every count is at its limit, and every number as long as it can be.
 pub fn longest() -> Record {
     let mut record = EMPTY;
     record.form = 1;
@@ -222,7 +225,7 @@ pub fn longest_sheet() -> Vec<u8> {
     sheet.concat().into_bytes()
 }
 
-fn secrets(record: &mut Record, list: &[(u32, i32)]) {
+pub(super) fn secrets(record: &mut Record, list: &[(u32, i32)]) {
     record.secret_count = list.len() as u32;
     for (secret, &(key, dummy)) in record.secrets.iter_mut().zip(list) {
         *secret = Secret {
@@ -233,12 +236,12 @@ fn secrets(record: &mut Record, list: &[(u32, i32)]) {
     }
 }
 
-fn commands(record: &mut Record, list: &[Coded]) {
+pub(super) fn commands(record: &mut Record, list: &[Coded]) {
     record.command_count = list.len() as u32;
     record.commands[..list.len()].copy_from_slice(list);
 }
 
-fn messages(record: &mut Record, list: &[&[(u32, i32)]]) {
+pub(super) fn messages(record: &mut Record, list: &[&[(u32, i32)]]) {
     record.message_count = list.len() as u32;
     for (message, entries) in record.messages.iter_mut().zip(list) {
         message.entry_count = entries.len() as u32;
@@ -248,7 +251,7 @@ fn messages(record: &mut Record, list: &[&[(u32, i32)]]) {
     }
 }
 
-fn letters(record: &mut Record, list: &[u8]) {
+pub(super) fn letters(record: &mut Record, list: &[u8]) {
     record.letter_count = list.len() as u32;
     record.letters[..list.len()].copy_from_slice(list);
 }
@@ -404,13 +407,9 @@ pub const FAULTS_A: &[Change] = &[
     |r| r.secrets[0].owner = 65,
     |r| r.messages[0].entries[1].key = 0,
     |r| r.commands[4] = coded(11, 0, 0, 0, 6, 0),
-    // Form 2 is a later note's, with everything else as it will be there or without.
+    // Form 2 has other owners and other letters.
     |r| r.form = 2,
-    |r| {
-        r.form = 2;
-        r.secrets[0].owner = 65;
-        r.letters[..10].copy_from_slice(b"LALALALALA");
-    },
+    |r| r.form = 3,
     |r| r.form = 0,
     |r| r.form = 257,
     |r| r.form = u32::MAX,
@@ -629,10 +628,11 @@ pub fn opened() -> Vec<Opened> {
     opened.push(not_read(8, 36, messages));
     let letters = [head.as_slice(), b"do=stop\nturns=", &[b'L'; 1_025], b"\n"].concat();
     opened.push(not_read(8, 4, letters));
+    opened.extend(owner_records::opened());
     opened
 }
 
-fn not_read(number: u32, line: u32, sheet: Vec<u8>) -> Opened {
+pub(super) fn not_read(number: u32, line: u32, sheet: Vec<u8>) -> Opened {
     Opened {
         sheet,
         numbers: [number, line],
@@ -675,7 +675,7 @@ pub const REFUSED: &[(u32, u32, &[u8])] = &[
     (3, 4, b"sheet=1\nkeys=1\ndo=send\n"),
     (3, 3, b"sheet=1\nkeys=1\nturns=L\n"),
     (3, 5, b"sheet=1\nkeys=1\ndo=send\nturns=L\nturns=L\n"),
-    (4, 1, b"sheet=2\nkeys=1\ndo=send\nturns=L\n"),
+    (4, 1, b"sheet=3\nkeys=1\ndo=send\nturns=L\n"),
     (4, 2, b"sheet=1\nkeys=9\ndo=send\nturns=L\n"),
     (4, 2, b"sheet=1\nkeys=0\ndo=send\nturns=L\n"),
     (4, 3, b"sheet=1\nkeys=1\nsecret=0:1:A\ndo=send\nturns=L\n"),

@@ -7,11 +7,11 @@
 #![allow(clippy::ptr_arg)]
 
 use super::{value, Rng};
-use crate::model::{MOST_BYTES, MOST_COMMANDS, MOST_MESSAGES, MOST_TURNS};
+use crate::model::{Form, MOST_BYTES, MOST_COMMANDS, MOST_MESSAGES, MOST_TURNS};
 
-type Line = Vec<u8>;
+pub(super) type Line = Vec<u8>;
 /// A change of the lines of a sheet, none of which holds its line feed.
-type LineFault = fn(&mut Rng, &mut Vec<Line>);
+pub(super) type LineFault = fn(&mut Rng, &mut Vec<Line>);
 /// A change of the bytes of a sheet.
 type ByteFault = fn(&mut Rng, &mut Vec<u8>);
 
@@ -72,7 +72,7 @@ fn with_bytes(rng: &mut Rng, sheet: &[u8], faults: &[ByteFault]) -> Vec<u8> {
 
 /// Splits the sheet into lines, changes them, and joins them again. Bytes after the last line feed
 /// stay as they are.
-fn with_lines(rng: &mut Rng, sheet: &[u8], faults: &[LineFault]) -> Vec<u8> {
+pub(super) fn with_lines(rng: &mut Rng, sheet: &[u8], faults: &[LineFault]) -> Vec<u8> {
     let mut lines: Vec<Line> = sheet.split(|&byte| byte == b'\n').map(Line::from).collect();
     let tail = lines.pop().unwrap_or_default();
     rng.pick(faults)(rng, &mut lines);
@@ -86,13 +86,13 @@ fn with_lines(rng: &mut Rng, sheet: &[u8], faults: &[LineFault]) -> Vec<u8> {
 }
 
 /// The places of the lines that begin with `name`.
-fn places(lines: &[Line], name: &str) -> Vec<usize> {
+pub(super) fn places(lines: &[Line], name: &str) -> Vec<usize> {
     let begins = |&place: &usize| lines[place].starts_with(name.as_bytes());
     (0..lines.len()).filter(begins).collect()
 }
 
 /// The place of one line that begins with `name`, if there is one.
-fn place_of(rng: &mut Rng, lines: &[Line], name: &str) -> Option<usize> {
+pub(super) fn place_of(rng: &mut Rng, lines: &[Line], name: &str) -> Option<usize> {
     let places = places(lines, name);
     (!places.is_empty()).then(|| rng.pick(&places))
 }
@@ -105,7 +105,7 @@ fn place_after(lines: &[Line], name: &str) -> usize {
     }
 }
 
-fn keys(lines: &[Line]) -> usize {
+pub(super) fn keys(lines: &[Line]) -> usize {
     let digit = places(lines, "keys=").first().map(|&place| &lines[place]);
     match digit.and_then(|line| line.get(5)) {
         Some(&digit @ b'1'..=b'8') => usize::from(digit - b'0'),
@@ -489,6 +489,11 @@ fn insert_more(lines: &mut Vec<Line>, name: &str, line: &str, last: &str, missin
 }
 
 fn too_many_letters(rng: &mut Rng, lines: &mut Vec<Line>) {
+    fill_letters(rng, lines, b"LH");
+}
+
+/// As many letters of these as may be, or more.
+pub(super) fn fill_letters(rng: &mut Rng, lines: &mut [Line], letters: &[u8]) {
     let Some(place) = place_of(rng, lines, "turns=") else {
         return;
     };
@@ -496,7 +501,7 @@ fn too_many_letters(rng: &mut Rng, lines: &mut Vec<Line>) {
     let wrong = rng.chance(1, 4);
     let line = &mut lines[place];
     while line.len() < "turns=".len() + most {
-        line.push(rng.pick(b"LH"));
+        line.push(rng.pick(letters));
     }
     if wrong {
         let place = rng.between("turns=".len(), line.len() - 1);
@@ -570,10 +575,10 @@ pub fn letter(rng: &mut Rng) -> u8 {
 }
 
 /// Lines of fragments, mostly in the order of the format, often after a head that is right.
-pub fn random_lines(rng: &mut Rng) -> Vec<u8> {
+pub fn random_lines(form: Form, rng: &mut Rng) -> Vec<u8> {
     let mut sheet = Vec::new();
     if rng.chance(9, 10) {
-        sheet.extend(b"sheet=1\nkeys=");
+        sheet.extend(format!("sheet={}\nkeys=", form.number()).bytes());
         sheet.push(rng.pick(b"23478"));
         sheet.push(b'\n');
     }
@@ -581,14 +586,14 @@ pub fn random_lines(rng: &mut Rng) -> Vec<u8> {
     for (name, most) in counts {
         let least = usize::from(name == "do=" || name == "turns=");
         for _ in 0..rng.between(least, most) {
-            random_line(rng, name, &mut sheet);
+            random_line(form, rng, name, &mut sheet);
         }
     }
     sheet
 }
 
 /// A line that mostly has the name asked for.
-fn random_line(rng: &mut Rng, name: &str, sheet: &mut Vec<u8>) {
+fn random_line(form: Form, rng: &mut Rng, name: &str, sheet: &mut Vec<u8>) {
     const NAMES: [&str; 8] = [
         "sheet=", "keys=", "secret=", "do=", "msg=", "turns=", "", "do",
     ];
@@ -599,15 +604,28 @@ fn random_line(rng: &mut Rng, name: &str, sheet: &mut Vec<u8>) {
     let text = match name {
         "do=" => random_words(rng),
         "msg=" => random_entries(rng),
-        "secret=" => random_entry(rng),
-        "turns=" => rng
-            .pick(&["L", "HL", "LLHH", "LHLHLHLH", "LxH", ""])
-            .to_string(),
+        "secret=" => random_secret(form, rng),
+        "turns=" => random_turns(form, rng).to_string(),
         _ => random_number(rng),
     };
     sheet.extend(name.bytes());
     sheet.extend(text.bytes());
     sheet.push(b'\n');
+}
+
+fn random_secret(form: Form, rng: &mut Rng) -> String {
+    let entry = random_entry(rng);
+    match form {
+        Form::One => entry,
+        Form::Two => format!("{entry}:{}", rng.pick(&["A", "A", "B", "B", "", "C", "A:"])),
+    }
+}
+
+fn random_turns(form: Form, rng: &mut Rng) -> &'static str {
+    match form {
+        Form::One => rng.pick(&["L", "HL", "LLHH", "LHLHLHLH", "LxH", ""]),
+        Form::Two => rng.pick(&["L", "AL", "LLAABB", "LABLABLABLAB", "LBxA", "LHL", ""]),
+    }
 }
 
 /// A command word and numbers, mostly as many as the word asks for.

@@ -5,8 +5,8 @@
 //! secret decides a way only where both ways are as long as each other, have no call and change
 //! nothing but what may be secret, or where no call comes any more.
 
-use super::{accepted_job, maybe, message, value, Rng, Shape};
-use crate::model::{Command, Job, Level, MOST_COMMANDS, MOST_KEYS};
+use super::{accepted_job, maybe, message, of_one, value, Rng, Shape};
+use crate::model::{Command, Form, Job, Level, HIGH, MOST_COMMANDS, MOST_KEYS};
 use crate::plain::{dummied, MOST_STEPS};
 
 /// What a job's program is to be.
@@ -42,7 +42,7 @@ pub fn job_with(rng: &mut Rng, care: Care) -> Job {
     if rng.chance(1, 16) {
         job.messages = dummied(&job);
     }
-    job.turns = [Level::Low, Level::High].repeat(steps(rng));
+    job.turns = [Level::Low, HIGH].repeat(steps(rng));
     job
 }
 
@@ -64,8 +64,9 @@ fn careful_job(rng: &mut Rng, care: Care) -> Job {
     let count = rng.between(least, 8);
     let messages = (0..count).map(|_| message(rng, keys)).collect();
     Job {
+        form: Form::One,
         keys,
-        secrets,
+        secrets: secrets.into_iter().map(of_one).collect(),
         commands,
         messages,
         turns: Vec::new(),

@@ -1,7 +1,7 @@
 //! Random lists of commands, put together from short passages that do something together.
 
 use super::{value, Rng};
-use crate::model::{Command, MOST_COMMANDS, VARIABLES};
+use crate::model::{Command, Owner, Secret, MOST_COMMANDS, VARIABLES};
 
 /// A target that stands for the end until the count of commands is known.
 const END: usize = usize::MAX;
@@ -26,9 +26,12 @@ const NEAR_THE_ENDS: [(i32, i32); 12] = [
 const LEADS_OUT: [i32; 6] = [i32::MIN, i32::MIN + 1, -1, 65_536, i32::MAX - 1, i32::MAX];
 
 /// Exactly `count` commands of every kind, with loops and jumps; most of them come to an end.
-pub fn mixed(rng: &mut Rng, secrets: &[Option<i32>], count: usize) -> Vec<Command> {
+pub fn mixed(rng: &mut Rng, secrets: &[Option<Secret>], count: usize) -> Vec<Command> {
     let mut writer = Writer::new(rng, secrets);
-    // At the start, where both executions come to it, and where a short program has room for it.
+    // At the start, where all executions come to it, and where a short program has room for it.
+    if writer.two_owners() && writer.rng.chance(1, 2) {
+        writer.part_ways();
+    }
     match writer.rng.below(8) {
         0 => writer.calls_of_two_kinds(),
         1..=3 => writer.reckon(),
@@ -53,7 +56,7 @@ pub fn mixed(rng: &mut Rng, secrets: &[Option<i32>], count: usize) -> Vec<Comman
 
 /// A loop without a way out. A round takes at least five low steps and sends at most once, so that
 /// 1,024 letters never fill 32,768 bytes.
-pub fn endless(rng: &mut Rng, secrets: &[Option<i32>]) -> Vec<Command> {
+pub fn endless(rng: &mut Rng, secrets: &[Option<Secret>]) -> Vec<Command> {
     let mut writer = Writer::new(rng, secrets);
     for _ in 0..writer.rng.below(4) {
         writer.plain();
@@ -70,6 +73,9 @@ pub fn endless(rng: &mut Rng, secrets: &[Option<i32>]) -> Vec<Command> {
             _ => writer.fork(),
         }
     }
+    if writer.two_owners() {
+        writer.three_ways();
+    }
     match writer.rng.below(8) {
         0 => {}
         1 | 2 => writer.one_call_or_the_other(),
@@ -82,12 +88,12 @@ pub fn endless(rng: &mut Rng, secrets: &[Option<i32>]) -> Vec<Command> {
 /// Commands as they are put together.
 struct Writer<'a> {
     rng: &'a mut Rng,
-    secrets: &'a [Option<i32>],
+    secrets: &'a [Option<Secret>],
     commands: Vec<Command>,
 }
 
 impl<'a> Writer<'a> {
-    fn new(rng: &'a mut Rng, secrets: &'a [Option<i32>]) -> Writer<'a> {
+    fn new(rng: &'a mut Rng, secrets: &'a [Option<Secret>]) -> Writer<'a> {
         Writer {
             rng,
             secrets,
@@ -146,7 +152,15 @@ impl<'a> Writer<'a> {
         }
     }
 
+    /// What others see at a key; 0 if it is open.
+    fn dummy(&self, key: usize) -> i32 {
+        self.secrets[key].map_or(0, |secret| secret.dummy)
+    }
+
     fn passage(&mut self) {
+        if self.two_owners() && self.rng.chance(1, 3) {
+            return self.part_ways();
+        }
         match self.rng.below(26) {
             0..=4 => self.carry(),
             5..=7 => {
@@ -259,7 +273,7 @@ impl<'a> Writer<'a> {
     /// A sum or a difference that leads the dummy of `k` to the nearer end of the range, or to the
     /// number before or after it. Entries beyond the dummy are led out.
     fn lead_to_an_end(&mut self, v: usize, w: usize, k: usize) {
-        let dummy = self.secrets[k].unwrap_or(0);
+        let dummy = self.dummy(k);
         let end = if dummy < 0 { i32::MIN } else { i32::MAX };
         let step = (end - dummy).saturating_add(self.rng.pick(&[-1, 0, 0, 1]));
         if self.rng.chance(1, 2) {
@@ -399,5 +413,102 @@ impl<'a> Writer<'a> {
             _ => Command::Jump(target),
         };
         self.add(command);
+    }
+    // With two owners, whose executions see other entries than each other.
+
+    fn keys_of(&self, owner: Owner) -> Vec<usize> {
+        let owns = |key: &usize| self.secrets[*key].is_some_and(|secret| secret.owner == owner);
+        (0..self.secrets.len()).filter(owns).collect()
+    }
+
+    /// Whether both owners have a key.
+    fn two_owners(&self) -> bool {
+        !self.keys_of(Owner::A).is_empty() && !self.keys_of(Owner::B).is_empty()
+    }
+
+    /// A key of each owner, in one order or the other.
+    fn a_key_of_each(&mut self) -> (usize, usize) {
+        let (a, b) = (self.keys_of(Owner::A), self.keys_of(Owner::B));
+        let (a, b) = (self.rng.pick(&a), self.rng.pick(&b));
+        self.rng.pick(&[(a, b), (b, a)])
+    }
+
+    /// Each execution has something of its own, and shows it.
+    fn part_ways(&mut self) {
+        if self.rng.chance(3, 4) {
+            self.add(Command::Receive);
+        }
+        match self.rng.below(8) {
+            0 | 1 => self.exchange(),
+            2 | 3 => self.reckon_across(),
+            4 => self.stay(),
+            5 => self.call_on_one_side(),
+            _ => self.three_ways(),
+        }
+        self.add(Command::Send);
+    }
+
+    /// What stands at the key of one owner goes to the key of the other: there its dummy is seen.
+    fn exchange(&mut self) {
+        let (one, other) = self.a_key_of_each();
+        let v = self.variable();
+        let w = (v + 1) % VARIABLES;
+        self.add(Command::Read(v, one));
+        self.add(Command::Read(w, other));
+        self.add(Command::Put(other, v));
+        self.add(Command::Put(one, w));
+    }
+
+    /// An operation on entries of both owners, of which each execution sees one at most.
+    fn reckon_across(&mut self) {
+        let (one, other) = self.a_key_of_each();
+        let v = self.variable();
+        let w = (v + 1) % VARIABLES;
+        let test = self.rng.pick(&[Command::Read, Command::Read, Command::Has]);
+        self.add(test(v, one));
+        self.add(Command::Read(w, other));
+        self.operation(v, w);
+        self.put_at_both(one, other, v);
+    }
+
+    /// A test of an entry of each owner, and other commands behind it. Who sees the entries goes another
+    /// way than who sees the dummies.
+    fn three_ways(&mut self) {
+        let (one, other) = self.a_key_of_each();
+        let (v, result) = (self.rng.below(4), self.rng.between(4, 7));
+        for key in [one, other] {
+            let place = self.test(v, key);
+            let number = self.rng.between(1, 99) as i32;
+            self.add(Command::Set(result, number));
+            if self.rng.chance(1, 3) {
+                self.plain();
+            }
+            self.aim(place, self.here());
+        }
+        self.put_at_both(one, other, result);
+    }
+
+    fn put_at_both(&mut self, one: usize, other: usize, v: usize) {
+        self.add(Command::Put(one, v));
+        self.add(Command::Put(other, v));
+        let key = self.key();
+        self.add(Command::Put(key, v));
+    }
+
+    /// A loop without a way out, for those who see the entry at a key. Who sees its dummy passes by.
+    fn stay(&mut self) {
+        let (k, _) = self.a_key_of_each();
+        let v = self.variable();
+        let dummy = self.dummy(k);
+        self.add(Command::Read(v, k));
+        let here = self.here();
+        if dummy > 0 {
+            self.add(Command::IfZero(v, here));
+            self.add(Command::IfNeg(v, here + 1));
+        } else {
+            let branch = [Command::IfZero, Command::IfNeg][usize::from(dummy < 0)];
+            self.add(branch(v, here + 2));
+            self.add(Command::Jump(here + 1));
+        }
     }
 }

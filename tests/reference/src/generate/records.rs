@@ -2,13 +2,14 @@
 //!
 //! Passing records are made number by number, and in what their counts do not cover anything stands;
 //! damaged ones begin as passing ones. A fault is a change of one number, or of two keys. It may do no
-//! harm, so what it leads to is for the model to say.
+//! harm, so what it leads to is for the model to say. A function whose name ends with `by` is given the form
+//! of the record; the one without makes records of form 1.
 
 use super::{length_near, up_to, value, Rng};
-use crate::model::{MOST_COMMANDS, MOST_KEYS, MOST_MESSAGES, MOST_TURNS, VARIABLES};
+use crate::model::{Form, MOST_COMMANDS, MOST_KEYS, MOST_MESSAGES, MOST_TURNS, VARIABLES};
 use crate::record::{
     coded, faults, text, unpack, Coded, Entry, Message, Operand, Record, Secret, EMPTY, LONGEST,
-    OPERANDS, RECORD_BYTES, WORDS,
+    LONGEST_OF_FORM_1, OPERANDS, RECORD_BYTES, WORDS,
 };
 
 /// The counts of a passing record.
@@ -60,11 +61,15 @@ impl Size {
 
 /// What the screen's memory holds before a record is put there: anything, nothing, or an older record.
 pub fn old(rng: &mut Rng) -> Record {
+    old_by(Form::One, rng)
+}
+
+pub fn old_by(form: Form, rng: &mut Rng) -> Record {
     match rng.below(8) {
         0 => EMPTY,
         1 | 2 => {
             let older = random_bytes(rng);
-            passing_over(rng, older)
+            passing_over(form, rng, older)
         }
         _ => random_bytes(rng),
     }
@@ -79,15 +84,35 @@ fn random_bytes(rng: &mut Rng) -> Record {
 
 /// A random record that passes.
 pub fn passing(rng: &mut Rng) -> Record {
-    let old = old(rng);
-    passing_over(rng, old)
+    passing_by(Form::One, rng)
 }
 
-fn passing_over(rng: &mut Rng, mut record: Record) -> Record {
+pub fn passing_by(form: Form, rng: &mut Rng) -> Record {
+    let old = old_by(form, rng);
+    passing_over(form, rng, old)
+}
+
+/// The letters of turns.
+fn letters_of(form: Form) -> &'static [u8] {
+    match form {
+        Form::One => b"LH",
+        Form::Two => b"LAB",
+    }
+}
+
+/// The number of an owner.
+fn owner_by(form: Form, rng: &mut Rng) -> u32 {
+    match form {
+        Form::One => 0,
+        Form::Two => rng.pick(b"AB").into(),
+    }
+}
+
+fn passing_over(form: Form, rng: &mut Rng, mut record: Record) -> Record {
     let longest = rng.chance(1, 40);
     let size = if longest { LARGEST } else { Size::of(rng) };
     let full = longest || rng.chance(1, 12);
-    record.form = 1;
+    record.form = form.number() as u32;
     record.keys = size.keys as u32;
     // A full record has the longest text that these counts allow.
     let number = |rng: &mut Rng| if full { i32::MIN } else { value(rng) };
@@ -101,7 +126,7 @@ fn passing_over(rng: &mut Rng, mut record: Record) -> Record {
     record.secret_count = secrets.len() as u32;
     for (place, key) in record.secrets.iter_mut().zip(secrets) {
         let dummy = number(rng);
-        let owner = 0;
+        let owner = owner_by(form, rng);
         *place = Secret { key, dummy, owner };
     }
     set_commands(rng, &mut record, size.commands, full);
@@ -119,7 +144,7 @@ fn passing_over(rng: &mut Rng, mut record: Record) -> Record {
     }
     record.letter_count = size.letters as u32;
     for letter in &mut record.letters[..size.letters] {
-        *letter = rng.pick(b"LH");
+        *letter = rng.pick(letters_of(form));
     }
     record
 }
@@ -172,11 +197,15 @@ fn set(command: &mut Coded, operand: Operand, number: u32) {
 /// Bytes for the output memory: often near the length of the record's text. Of a record that is refused
 /// it is any length, none at times: 54 comes before 55.
 pub fn memory_length(rng: &mut Rng, record: &Record) -> usize {
+    let longest = match record.form {
+        1 => LONGEST_OF_FORM_1,
+        _ => LONGEST,
+    };
     let needed = match faults(record).is_empty() || rng.chance(1, 2) {
-        true => text(record).len().min(LONGEST),
+        true => text(record).len().min(longest),
         false => rng.below(100),
     };
-    length_near(rng, needed, LONGEST)
+    length_near(rng, needed, longest)
 }
 
 // Faults.
@@ -209,20 +238,58 @@ const CHANGES: &[Change] = &[
     beyond_counts,
 ];
 
+/// Those of what form 2 has of its own.
+const CHANGES_OF_FORM_2: &[Change] = &[form_of_two, owner_of_two, owner_of_two, letter_of_two];
+
+fn change(form: Form, rng: &mut Rng, record: &mut Record) {
+    let changes = match form {
+        Form::Two if rng.chance(1, 4) => CHANGES_OF_FORM_2,
+        _ => CHANGES,
+    };
+    rng.pick(changes)(rng, record);
+}
+
 /// A passing record with one change.
 pub fn damaged(rng: &mut Rng) -> Record {
-    let mut record = passing(rng);
-    let change = rng.pick(CHANGES);
-    change(rng, &mut record);
+    damaged_by(Form::One, rng)
+}
+
+pub fn damaged_by(form: Form, rng: &mut Rng) -> Record {
+    let mut record = passing_by(form, rng);
+    change(form, rng, &mut record);
     record
 }
 
 /// The same with one change more, or some.
 pub fn damaged_again(rng: &mut Rng) -> Record {
-    let mut record = damaged(rng);
+    damaged_again_by(Form::One, rng)
+}
+
+pub fn damaged_again_by(form: Form, rng: &mut Rng) -> Record {
+    let mut record = damaged_by(form, rng);
     for _ in 0..rng.between(1, 3) {
-        let change = rng.pick(CHANGES);
-        change(rng, &mut record);
+        change(form, rng, &mut record);
+    }
+    record
+}
+
+/// A passing record of either form with one number of the other: the form's, an owner's or a
+/// letter. At times it does no harm.
+pub fn crossed(rng: &mut Rng) -> Record {
+    let (form, other) = rng.pick(&[(Form::One, Form::Two), (Form::Two, Form::One)]);
+    let mut record = passing_by(form, rng);
+    match rng.below(3) {
+        0 => record.form = other.number() as u32,
+        1 => {
+            if let Some(secret) = any_secret(rng, &mut record) {
+                secret.owner = owner_by(other, rng);
+            }
+        }
+        _ => {
+            if let Some(letter) = any(rng, &mut record.letters, record.letter_count) {
+                *letter = rng.pick(letters_of(other));
+            }
+        }
     }
     record
 }
@@ -230,11 +297,15 @@ pub fn damaged_again(rng: &mut Rng) -> Record {
 /// No work of a planner: random bytes, with counts that look right or without, or small numbers
 /// everywhere, which pass at times.
 pub fn arbitrary(rng: &mut Rng) -> Record {
+    arbitrary_by(Form::One, rng)
+}
+
+pub fn arbitrary_by(form: Form, rng: &mut Rng) -> Record {
     match rng.below(6) {
         0 => random_bytes(rng),
         1 | 2 => {
             let mut record = random_bytes(rng);
-            record.form = 1;
+            record.form = form.number() as u32;
             record.keys = rng.between(1, 9) as u32;
             record.secret_count = rng.below(3) as u32;
             record.command_count = rng.between(1, 3) as u32;
@@ -242,20 +313,24 @@ pub fn arbitrary(rng: &mut Rng) -> Record {
             record.letter_count = rng.between(1, 9) as u32;
             record
         }
-        _ => small_numbers(rng),
+        _ => small_numbers(form, rng),
     }
 }
 
-fn small_numbers(rng: &mut Rng) -> Record {
+fn small_numbers(form: Form, rng: &mut Rng) -> Record {
     let mut record = EMPTY;
     let most = rng.between(1, 2);
     let mut small = || rng.below(most + 1) as u32;
-    record.form = 1;
+    record.form = form.number() as u32;
     record.keys = 1 + small();
     record.secret_count = small();
     for secret in &mut record.secrets {
         secret.key = small();
         secret.dummy = small() as i32;
+        secret.owner = match form {
+            Form::One => 0,
+            Form::Two => u32::from(b'A') + small(),
+        };
     }
     record.command_count = 1 + small();
     for command in &mut record.commands[..4] {
@@ -273,7 +348,7 @@ fn small_numbers(rng: &mut Rng) -> Record {
         }
     }
     record.letter_count = 1 + small();
-    record.letters.fill(b'H');
+    record.letters.fill(letters_of(form)[1]);
     record
 }
 
@@ -313,6 +388,15 @@ fn form(rng: &mut Rng, record: &mut Record) {
         0 => 0,
         1 => 2,
         _ => above(rng, 1),
+    };
+}
+
+/// The other form, or none.
+fn form_of_two(rng: &mut Rng, record: &mut Record) {
+    record.form = match rng.below(4) {
+        0 => 0,
+        1 => 1,
+        _ => above(rng, 2),
     };
 }
 
@@ -367,6 +451,20 @@ fn owner(rng: &mut Rng, record: &mut Record) {
         secret.owner = match rng.below(3) {
             0 => u32::from(rng.pick(b"ABLH")),
             _ => above(rng, 0),
+        };
+    }
+}
+
+/// An owner that is none: that of form 1, another letter or a letter of turns, a number whose low bits are
+/// an owner's, or one just beside.
+fn owner_of_two(rng: &mut Rng, record: &mut Record) {
+    if let Some(secret) = any_secret(rng, record) {
+        secret.owner = match rng.below(6) {
+            0 | 1 => 0,
+            2 => u32::from(rng.pick(b"HLCab@")),
+            3 => rng.pick(&[1, 2, 64, 67, 255]),
+            4 => u32::from(rng.pick(b"AB")) + rng.pick(&[1 << 8, 1 << 16, 1 << 31]),
+            _ => above(rng, 66),
         };
     }
 }
@@ -481,6 +579,13 @@ fn letter(rng: &mut Rng, record: &mut Record) {
             0 => rng.pick(b"ABGIKMlh\0\n \x7f\xc8\xcc\xff"),
             _ => rng.draw() as u8,
         };
+    }
+}
+
+/// A letter of form 1, or one beside those of form 2.
+fn letter_of_two(rng: &mut Rng, record: &mut Record) {
+    if let Some(letter) = any(rng, &mut record.letters, record.letter_count) {
+        *letter = rng.pick(b"HHH@CKMablh\0");
     }
 }
 
