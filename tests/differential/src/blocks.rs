@@ -11,7 +11,7 @@ use reference::blocks::{answer_line, c_entry, translated};
 use reference::generate::block_damage::{boundary, damaged, noise};
 use reference::generate::blocks::{accepted, memory_length, messages, Program};
 use reference::generate::{sheet_of, Rng};
-use reference::model::{MOST_COMMANDS, MOST_TURNS};
+use reference::model::{Form, MOST_COMMANDS, MOST_TURNS};
 use reference::plain::Plain;
 use reference::{read, Command, Job, Level};
 
@@ -313,6 +313,7 @@ fn depth(body: &[Piece]) -> usize {
 /// letters L.
 fn sheet_around(lines: &[u8], keys: usize, messages: &[Vec<Option<i32>>], turns: usize) -> Vec<u8> {
     let mut sheet = sheet_of(&Job {
+        form: Form::One,
         keys,
         secrets: vec![None; keys],
         commands: Vec::new(),

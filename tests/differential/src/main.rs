@@ -1,13 +1,14 @@
 //! `differential [PART] [COUNT [SEED]]` compares the archive with the reference model.
 //!
-//! PART is `sheets`, which are run, `honest`, sheets whose runs are held to plain runs too, `logs`,
-//! exports whose lines are made, `blocks`, programs with blocks whose lines are made and held to what
-//! such programs do, `records`, which are written as sheets, read again and run, or `opened`, sheets that
-//! are read into records and written again; without it, each of them in turn. First come the hand-written
-//! corners, then texts with every byte and with faults at every place, then COUNT random cases (20,000 by
-//! default). SEED is taken from the clock by default, and is always printed. Of each call every byte of
-//! the three memories is compared, and the bytes around them. Exit status 1: a difference, or random cases
-//! that show too little, as fewer than some thousand may.
+//! PART is `sheets`, which are run, `owners`, sheets with two owners of secrets, `honest`, sheets
+//! whose runs are held to plain runs too, `logs`, exports whose lines are made, `blocks`, programs
+//! with blocks whose lines are made and held to what such programs do, `records`, which are written
+//! as sheets, read again and run, or `opened`, sheets that are read into records and written again;
+//! without it, each of them in turn. First come the hand-written corners, then texts with every
+//! byte and with faults at every place, then COUNT random cases (20,000 by default). SEED is taken
+//! from the clock by default, and is always printed. Of each call every byte of the three memories
+//! is compared, and the bytes around them. Exit status 1: a difference, or random cases that show
+//! too little, as fewer than some thousand may.
 
 mod blocks;
 mod compare;
@@ -15,6 +16,7 @@ mod honest;
 mod lent;
 mod logs;
 mod opened;
+mod owners;
 mod pairs;
 mod part;
 mod records;
@@ -25,8 +27,9 @@ use part::Part;
 use std::process::ExitCode;
 use std::time::{SystemTime, UNIX_EPOCH};
 
-static PARTS: [&Part; 6] = [
+static PARTS: [&Part; 7] = [
     &sheets::SHEETS,
+    &owners::OWNERS,
     &honest::HONEST,
     &logs::LOGS,
     &blocks::BLOCKS,
@@ -40,7 +43,9 @@ fn main() -> ExitCode {
     let words: Vec<&str> = words.iter().map(String::as_str).collect();
     let (parts, words) = chosen(&words);
     let Some((count, seed)) = arguments(words) else {
-        eprintln!("usage: differential [sheets|honest|logs|blocks|records|opened] [COUNT [SEED]]");
+        eprintln!(
+            "usage: differential [sheets|owners|honest|logs|blocks|records|opened] [COUNT [SEED]]"
+        );
         return ExitCode::from(2);
     };
     for part in parts {
@@ -130,10 +135,13 @@ mod tests {
     #[test]
     fn a_first_word_chooses_a_part() {
         let names = |parts: &[&Part]| -> Vec<&str> { parts.iter().map(|part| part.name).collect() };
-        let all = ["sheets", "honest", "logs", "blocks", "records", "opened"];
+        let all = [
+            "sheets", "owners", "honest", "logs", "blocks", "records", "opened",
+        ];
         for (words, parts, rest) in [
             (&["logs", "7"][..], &["logs"][..], &["7"][..]),
             (&["sheets"], &["sheets"], &[]),
+            (&["owners", "7"], &["owners"], &["7"]),
             (&["honest", "7", "8"], &["honest"], &["7", "8"]),
             (&["blocks"], &["blocks"], &[]),
             (&["records"], &["records"], &[]),

@@ -1,18 +1,18 @@
-//! The entry that reads a sheet into the record of a screen: document 02's Note 7. The record holds
-//! something before the call: anything, nothing, or an older record. What the archive has read it must
-//! write as the same sheet.
+//! The entry that reads a sheet into the record of a screen: document 02's Note 7, of both forms of
+//! its Note 8. The record holds something before the call: anything, nothing, or an older record,
+//! of either form. What the archive has read it must write as the same sheet.
 
 use crate::compare::{compare, Difference, Entry, Left, Record as Memory};
 use crate::part::{Corner, Part, Texts};
-use crate::records::{job_in, job_in_mut, WRONG_LENGTHS};
+use crate::records::{job_in, job_in_mut, old, WRONG_LENGTHS};
 use crate::tally::{Tally, Telling, Wanted};
 use pavebox::{ReadAnswer, ACCEPTED, READ_ANSWER_BYTES};
-use reference::generate::records::{damaged as damaged_record, old, passing};
-use reference::generate::{accepted, damaged, noise, Rng, Shape};
-use reference::read;
+use reference::generate::records::{damaged_by as damaged_record_by, passing_by};
+use reference::generate::{accepted_by, crossed, damaged_by, noise_by, Rng, Shape};
 use reference::record::{
     answer_line, faults, listing, pack, read_entry, record_of, text, unpack, Record, RECORD_BYTES,
 };
+use reference::{read, Form};
 
 pub static OPENED: Part = Part {
     name: "opened",
@@ -32,12 +32,16 @@ pub static OPENED: Part = Part {
     random,
     // Success, and every refusal of a sheet.
     wanted: Wanted {
-        numbers: &[0, 1, 2, 3, 4, 5, 6, 7, 8, 9, 10],
+        numbers: &[0, 1, 2, 3, 4, 5, 46, 6, 7, 8, 9, 10],
         tellings: &[
             &ARE_READ,
+            &OF_FORM_2,
             &OVER_A_RECORD,
             &OVER_MORE,
+            &OVER_ANOTHER_FORM[0],
+            &OVER_ANOTHER_FORM[1],
             &REFUSED_OVER_A_RECORD,
+            &REFUSED_FOR_AN_OWNER,
             &NO_ENTRIES,
             &AT_THE_LIMITS,
         ],
@@ -50,8 +54,14 @@ static ARE_READ: Telling = Telling {
     one_of: 6,
 };
 
-/// About a quarter are, and one in 19; the others could not tell an entry that goes by what the record
-/// held, or clears what the sheet does not need.
+/// About half are; the others could not tell an entry that reads form 1 alone.
+static OF_FORM_2: Telling = Telling {
+    words: "sheets that are read are of form 2",
+    one_of: 7,
+};
+
+/// About a quarter are, and one in 21; the others could not tell an entry that goes by what the
+/// record held, or clears what the sheet does not need.
 static OVER_A_RECORD: Telling = Telling {
     words: "sheets are read over a record that passes",
     one_of: 16,
@@ -61,10 +71,29 @@ static OVER_MORE: Telling = Telling {
     one_of: 100,
 };
 
+/// About one in 16 is, either way; the others could not tell an entry that leaves the form as it
+/// was, or the owners.
+static OVER_ANOTHER_FORM: [Telling; 2] = [
+    Telling {
+        words: "sheets of form 1 are read over a record of form 2 that passes",
+        one_of: 60,
+    },
+    Telling {
+        words: "sheets of form 2 are read over a record of form 1 that passes",
+        one_of: 60,
+    },
+];
+
 /// About a quarter are; the others could not tell an entry that changes a count before it refuses.
 static REFUSED_OVER_A_RECORD: Telling = Telling {
     words: "sheets are refused and leave a record that passes",
     one_of: 16,
+};
+
+/// About one in 16 is; the others could not tell an entry that takes any owner.
+static REFUSED_FOR_AN_OWNER: Telling = Telling {
+    words: "refused sheets are refused for an owner",
+    one_of: 60,
 };
 
 /// About half have, and three in ten; the others could not tell lower limits, or a message that is
@@ -138,15 +167,17 @@ fn answer_and_listing(left: &Left) -> Vec<u8> {
 }
 
 fn random_sheet(rng: &mut Rng) -> Vec<u8> {
+    let form = rng.pick(&Form::ALL);
     match rng.below(20) {
-        0 | 1 => accepted(rng, Shape::Small),
-        2..=4 => accepted(rng, Shape::Medium),
-        5 | 6 => accepted(rng, Shape::Large),
-        7 => accepted(rng, Shape::LongRun),
-        8 | 9 => text(&passing(rng)),
-        10 => text(&damaged_record(rng)),
-        11..=17 => damaged(rng),
-        _ => noise(rng),
+        0 | 1 => accepted_by(form, rng, Shape::Small),
+        2..=4 => accepted_by(form, rng, Shape::Medium),
+        5 | 6 => accepted_by(form, rng, Shape::Large),
+        7 => accepted_by(form, rng, Shape::LongRun),
+        8 | 9 => text(&passing_by(form, rng)),
+        10 => text(&damaged_record_by(form, rng)),
+        11 => crossed(rng),
+        12..=17 => damaged_by(form, rng),
+        _ => noise_by(form, rng),
     }
 }
 
@@ -176,9 +207,11 @@ fn count(before: &Record, number: u32, left: &Left, tally: &mut Tally) {
     tally.count_telling(&ARE_READ, number == ACCEPTED);
     if number != ACCEPTED {
         tally.count_telling(&REFUSED_OVER_A_RECORD, passes);
+        tally.count_telling(&REFUSED_FOR_AN_OWNER, number == 46);
         return;
     }
     let record = unpack(left.output());
+    count_forms(passes.then_some(before.form), record.form, tally);
     let more = [
         before.secret_count > record.secret_count,
         before.command_count > record.command_count,
@@ -195,6 +228,14 @@ fn count(before: &Record, number: u32, left: &Left, tally: &mut Tally) {
     tally.count_telling(&OVER_MORE, passes && more == [true; 4]);
     tally.count_telling(&NO_ENTRIES, messages.iter().any(|m| m.entry_count == 0));
     tally.count_telling(&AT_THE_LIMITS, limits.contains(&true));
+}
+
+/// The form of a sheet that is read, and before it that of the record, if that passed.
+fn count_forms(before: Option<u32>, form: u32, tally: &mut Tally) {
+    tally.count_telling(&OF_FORM_2, form == 2);
+    for ((new, old), way) in [(1, 2), (2, 1)].into_iter().zip(&OVER_ANOTHER_FORM) {
+        tally.count_telling(way, form == new && before == Some(old));
+    }
 }
 
 /// "and writing an accepted sheet's record gives the same bytes", in memory that is just enough.

@@ -1,17 +1,19 @@
-//! The entry that writes the record of a screen as a sheet: document 02's Note 7. What the archive has
-//! written it must read as the same record, in all that the counts cover, and run as the record's job.
+//! The entry that writes the record of a screen as a sheet: document 02's Note 7, of both forms of
+//! its Note 8. What the archive has written it must read as the same record, in all that the counts
+//! cover, and run as the record's job.
 
 use crate::compare::{Difference, Entry, Left, Record as Memory};
 use crate::part::{Corner, Part, Texts};
 use crate::tally::{Tally, Telling, Wanted};
 use pavebox::{Job, WriteAnswer, BAD_RECORD, NO_ROOM_FOR_SHEET, WRITE_ANSWER_BYTES, WRITTEN};
 use reference::generate::records::{
-    arbitrary, damaged, damaged_again, memory_length, old, passing,
+    arbitrary_by, crossed, damaged_again_by, damaged_by, memory_length, old_by, passing_by,
 };
 use reference::generate::Rng;
-use reference::model::{run, NUMBERS};
+use reference::model::{run, Form, NUMBERS};
 use reference::record::{
-    answer_line, faults, job_of, laid_over, pack, text, unpack, write_entry, Fault, Record, LONGEST,
+    answer_line, faults, job_of, laid_over, pack, text, unpack, write_entry, Fault, Record,
+    LONGEST, LONGEST_OF_FORM_1,
 };
 
 pub static RECORDS: Part = Part {
@@ -35,10 +37,16 @@ pub static RECORDS: Part = Part {
         numbers: &[0, 54, 55, 10],
         tellings: &[
             &ARE_WRITTEN,
+            &OF_FORM_2,
             &JUST_FIT,
             &LACK_A_BYTE,
-            &LONGEST_SHEETS,
+            &LONGEST_SHEETS[0],
+            &LONGEST_SHEETS[1],
             &REFUSED_WITHOUT_ROOM,
+            &OWNERS_ALONE[0],
+            &OWNERS_ALONE[1],
+            &LETTERS_ALONE[0],
+            &LETTERS_ALONE[1],
             &ALONE[0],
             &ALONE[1],
             &ALONE[2],
@@ -70,6 +78,12 @@ static ARE_WRITTEN: Telling = Telling {
     one_of: 8,
 };
 
+/// About half are; the others could not tell an entry that writes form 1 alone.
+static OF_FORM_2: Telling = Telling {
+    words: "records that are written are of form 2",
+    one_of: 7,
+};
+
 /// About three in ten do, and one in ten; the others could not tell an entry that wants a byte more than it
 /// needs, or a byte less.
 static JUST_FIT: Telling = Telling {
@@ -81,11 +95,18 @@ static LACK_A_BYTE: Telling = Telling {
     one_of: 30,
 };
 
-/// About one in 40 has; the others could not tell an entry with too small a memory of its own.
-static LONGEST_SHEETS: Telling = Telling {
-    words: "records that pass have the longest sheet",
-    one_of: 200,
-};
+/// About one in 84 has, of each form; the others could not tell an entry with too small a memory of
+/// its own.
+static LONGEST_SHEETS: [Telling; 2] = [
+    Telling {
+        words: "records that pass have the longest sheet of form 1",
+        one_of: 300,
+    },
+    Telling {
+        words: "records that pass have the longest sheet of form 2",
+        one_of: 300,
+    },
+];
 
 /// About two in nine have; the others could not tell an entry that tests 55 before 54.
 static REFUSED_WITHOUT_ROOM: Telling = Telling {
@@ -93,8 +114,35 @@ static REFUSED_WITHOUT_ROOM: Telling = Telling {
     one_of: 20,
 };
 
-/// Records that one kind of fault alone spoils: of those that are refused, between one in ten and one in
-/// 60 for each kind. Without it they would pass, so that an entry that does not test it is found out.
+/// Records that an owner alone spoils: of those that are refused about one in 36 and one in 16. The
+/// others could not tell an entry that tests the owners of both forms by one rule.
+static OWNERS_ALONE: [Telling; 2] = [
+    Telling {
+        words: "refused records of form 1 are wrong in an owner alone",
+        one_of: 120,
+    },
+    Telling {
+        words: "refused records of form 2 are wrong in an owner alone",
+        one_of: 60,
+    },
+];
+
+/// The same for letters of the other form: about one in 70 and one in 62. The others could not tell
+/// an entry that takes all letters in both forms.
+static LETTERS_ALONE: [Telling; 2] = [
+    Telling {
+        words: "refused records of form 1 are wrong in letters A and B alone",
+        one_of: 240,
+    },
+    Telling {
+        words: "refused records of form 2 are wrong in letters H alone",
+        one_of: 220,
+    },
+];
+
+/// Records that one kind of fault alone spoils: of those that are refused, between one in nine and
+/// one in 70 for each kind. Without it they would pass, so that an entry that does not test it is
+/// found out.
 static ALONE: [Telling; 18] = [
     alone("refused records are wrong in their form alone"),
     alone("refused records are wrong in their count of keys alone"),
@@ -178,12 +226,20 @@ fn sheet_and_answer(left: &Left) -> Vec<u8> {
 }
 
 fn random_record(rng: &mut Rng) -> Record {
+    let form = rng.pick(&Form::ALL);
     match rng.below(20) {
-        0..=5 => passing(rng),
-        6..=14 => damaged(rng),
-        15 | 16 => damaged_again(rng),
-        _ => arbitrary(rng),
+        0..=5 => passing_by(form, rng),
+        6..=13 => damaged_by(form, rng),
+        14 => crossed(rng),
+        15 | 16 => damaged_again_by(form, rng),
+        _ => arbitrary_by(form, rng),
     }
+}
+
+/// What a record holds before a sheet is read into it, of either form.
+pub fn old(rng: &mut Rng) -> Record {
+    let form = rng.pick(&Form::ALL);
+    old_by(form, rng)
 }
 
 fn random(rng: &mut Rng, _place: u64, tally: &mut Tally) -> Result<(), Difference> {
@@ -210,17 +266,36 @@ fn random(rng: &mut Rng, _place: u64, tally: &mut Tally) -> Result<(), Differenc
 fn count(record: &Record, number: u32, lent: usize, tally: &mut Tally) {
     tally.count_telling(&ARE_WRITTEN, number == WRITTEN);
     if number == BAD_RECORD {
-        let faults = faults(record);
         tally.count_telling(&REFUSED_WITHOUT_ROOM, lent < SHORTEST);
-        for (fault, way) in FAULTS.iter().zip(&ALONE) {
-            tally.count_telling(way, faults.len() == 1 && faults.contains(fault));
-        }
-    } else {
-        let length = text(record).len();
-        let no_room = number == NO_ROOM_FOR_SHEET;
-        tally.count_telling(&JUST_FIT, number == WRITTEN && lent == length);
-        tally.count_telling(&LACK_A_BYTE, no_room && lent + 1 == length);
-        tally.count_telling(&LONGEST_SHEETS, length == LONGEST);
+        count_alone(record, tally);
+        return;
+    }
+    let length = text(record).len();
+    let no_room = number == NO_ROOM_FOR_SHEET;
+    if number == WRITTEN {
+        tally.count_telling(&OF_FORM_2, record.form == 2);
+    }
+    tally.count_telling(&JUST_FIT, number == WRITTEN && lent == length);
+    tally.count_telling(&LACK_A_BYTE, no_room && lent + 1 == length);
+    let longest = [LONGEST_OF_FORM_1, LONGEST];
+    for ((form, longest), way) in (1..).zip(longest).zip(&LONGEST_SHEETS) {
+        tally.count_telling(way, record.form == form && length == longest);
+    }
+}
+
+/// Which one kind of fault a refused record has, if it has one.
+fn count_alone(record: &Record, tally: &mut Tally) {
+    let faults = faults(record);
+    let alone = |fault: &Fault| faults.len() == 1 && faults.contains(fault);
+    for (fault, way) in FAULTS.iter().zip(&ALONE) {
+        tally.count_telling(way, alone(fault));
+    }
+    let of_a_form = |letter: &u8| b"LHAB".contains(letter);
+    let crossed = alone(&Fault::Letter) && record.letters().iter().all(of_a_form);
+    for (form, (owners, letters)) in (1..).zip(OWNERS_ALONE.iter().zip(&LETTERS_ALONE)) {
+        let of_form = record.form == form;
+        tally.count_telling(owners, of_form && alone(&Fault::Owner));
+        tally.count_telling(letters, of_form && crossed);
     }
 }
 

@@ -1,14 +1,14 @@
-//! The entry that runs a sheet. Every fourth case is a pair of sheets that differ in secret entries
-//! only.
+//! The entry that runs a sheet. The random ones are of form 1; those of form 2 are in the part
+//! `owners`. Every fourth case is a pair of sheets that differ in secret entries only.
 
 use crate::compare::{Difference, Entry, Left, Record};
-use crate::pairs::compare_pair;
+use crate::pairs;
 use crate::part::{Corner, Part, Texts};
 use crate::tally::{Tally, Telling, Wanted};
 use pavebox::{Answer, ANSWER_BYTES};
-use reference::generate::{accepted, damaged, memory_length, noise, secret_pair, Rng, Shape};
+use reference::generate::{accepted_by, damaged_by, memory_length, noise_by, Rng, Shape};
 use reference::model::{end_line, run_by, CallRule, NUMBERS};
-use reference::read;
+use reference::{read, Form, Job, Owner};
 
 pub static SHEETS: Part = Part {
     name: "sheets",
@@ -138,10 +138,10 @@ pub fn printed(left: &Left) -> Vec<u8> {
 }
 
 fn random(rng: &mut Rng, place: u64, tally: &mut Tally) -> Result<(), Difference> {
-    if place % PAIR_EVERY == 0 {
+    if place.is_multiple_of(PAIR_EVERY) {
         return random_pair(rng, tally);
     }
-    let sheet = random_sheet(rng);
+    let sheet = random_sheet(Form::One, rng);
     let left = SHEETS.compare_once(rng, &sheet)?;
     tally.count_random(left.returned);
     count_tellings(&sheet, &left, tally);
@@ -156,36 +156,42 @@ fn count_tellings(sheet: &[u8], left: &Left, tally: &mut Tally) {
     };
     let mut output = vec![0; left.output().len()];
     let (_, unreported) = run_by(CallRule::SameKind, &job, &mut output);
-    tally.count_telling(&IDLE_BY_KIND, unreported.idle_by_kind > 0);
-    let (low, high) = (numbers[6] > 0, unreported.high_clamped > 0);
+    tally.count_telling(&IDLE_BY_KIND, unreported.idle_by_kind() > 0);
+    let (low, high) = (numbers[6] > 0, unreported.clamped() > 0);
     tally.count_telling(&HIGH_CLAMPS_ALONE, high && !low);
     tally.count_telling(&LOW_CLAMPS_ALONE, low && !high);
     tally.count_telling(&DIVIDES_BY_ZERO, unreported.low_zero_divisors > 0);
     tally.count_telling(&REACHES_AN_END, unreported.low_at_an_end > 0);
-    run_by(CallRule::EitherKind, &job, &mut output);
-    let written = numbers[4] as usize;
-    tally.count_telling(&KIND_DECIDES, left.lines(numbers[4]) != &output[..written]);
+    let kind_decides = sends_else(CallRule::EitherKind, &job, left);
+    tally.count_telling(&KIND_DECIDES, kind_decides);
+}
+
+/// Whether the run of this job by this rule sends something else than a run has left, in as much
+/// memory.
+pub fn sends_else(rule: CallRule, job: &Job, left: &Left) -> bool {
+    let mut output = vec![0; left.output().len()];
+    let (run, _) = run_by(rule, job, &mut output);
+    let written = numbers(left).map_or(0, |numbers| numbers[4]);
+    left.lines(written) != &output[..run[4] as usize]
 }
 
 fn random_pair(rng: &mut Rng, tally: &mut Tally) -> Result<(), Difference> {
-    let (first, second) = secret_pair(rng);
-    let lent = memory_length(rng, &first);
-    let first = SHEETS.case(rng, &first, lent, ANSWER_BYTES);
-    let second = first.with_input(&second);
-    let pair = compare_pair(&first, &second)?;
+    let pair = pairs::random_pair(&SHEETS, Form::One, &[Owner::H], rng)?;
     tally.count_random(pair.returned);
-    tally.count_telling(&PAIRS_DIFFER, pair.differs);
-    tally.count_telling(&PAIRS_CLAMP_DIFFERENTLY, pair.clamps_differently);
+    tally.count_telling(&PAIRS_DIFFER, !pair.differ.is_empty());
+    let clamp_differently = !pair.clamp_differently.is_empty();
+    tally.count_telling(&PAIRS_CLAMP_DIFFERENTLY, clamp_differently);
     Ok(())
 }
 
-fn random_sheet(rng: &mut Rng) -> Vec<u8> {
+/// A sheet of this form that is accepted, or damaged, or noise.
+pub fn random_sheet(form: Form, rng: &mut Rng) -> Vec<u8> {
     match rng.below(20) {
-        0..=3 => accepted(rng, Shape::Small),
-        4..=6 => accepted(rng, Shape::Medium),
-        7 | 8 => accepted(rng, Shape::Large),
-        9 => accepted(rng, Shape::LongRun),
-        10..=17 => damaged(rng),
-        _ => noise(rng),
+        0..=3 => accepted_by(form, rng, Shape::Small),
+        4..=6 => accepted_by(form, rng, Shape::Medium),
+        7 | 8 => accepted_by(form, rng, Shape::Large),
+        9 => accepted_by(form, rng, Shape::LongRun),
+        10..=17 => damaged_by(form, rng),
+        _ => noise_by(form, rng),
     }
 }
