@@ -11,6 +11,7 @@ mod sheets;
 mod timing;
 
 use records::{record_in, record_in_mut};
+use reference::model::Form;
 use sheets::Group;
 use std::hint::black_box;
 use std::path::Path;
@@ -86,46 +87,63 @@ fn main() -> ExitCode {
 fn usage() -> String {
     "usage: bench\n       bench archive|plain COUNT \
      [all|long|short|largest|LH|all L|random|runs|calls|log|blocks|saved|opened]\n       \
+     bench archive|plain COUNT \
+     two|'two long|short|largest|LAB|all L|random|runs|calls|saved|opened'\n       \
      bench texts FOLDER"
         .to_string()
 }
 
 fn compare_and_time() -> Result<(), String> {
-    let halves = [sheets::long(), sheets::short()];
-    let kinds = sheets::kinds();
-    let logs = [logs::full()];
-    let blocks = [blocks::full()];
-    let (saved, opened) = ([records::saved()], [records::opened()]);
-    for group in halves.iter().chain(&kinds).chain([&sheets::largest()]) {
-        compare(&RUN, group)?;
+    let sheets = Form::ALL.map(|form| (sheets::halves(form), sheets::kinds(form)));
+    for (halves, kinds) in &sheets {
+        compare_all(&RUN, halves)?;
+        compare_all(&RUN, kinds)?;
     }
-    compare(&CSV, &logs[0])?;
-    compare(&BLOCKS, &blocks[0])?;
-    compare(&SAVE, &saved[0])?;
-    compare(&OPEN, &opened[0])?;
-    println!("archive and plain agree on all sheets, exports, programs with blocks and records");
-    let of_halves = [Row("all", &[0, 1]), Row("long", &[0]), Row("short", &[1])];
-    print!("{}", timing::report(&RUN, &halves, &of_halves));
-    println!("long runs, by the kind of their turns:");
-    let of_kinds = [
-        Row("LH", &[0]),
-        Row("all L", &[1]),
-        Row("random", &[2]),
-        Row("runs", &[3]),
-        Row("calls", &[4]),
-    ];
-    print!("{}", timing::report(&RUN, &kinds, &of_kinds));
-    println!("full exports of a belt log:");
-    print!("{}", timing::report(&CSV, &logs, &[Row("log", &[0])]));
-    println!("programs with blocks, of 64 commands:");
-    print!(
-        "{}",
-        timing::report(&BLOCKS, &blocks, &[Row("blocks", &[0])])
+    let (logs, blocks) = ([logs::full()], [blocks::full()]);
+    let (saved, opened) = (
+        Form::ALL.map(records::saved),
+        Form::ALL.map(records::opened),
     );
+    compare_all(&RUN, &Form::ALL.map(sheets::largest))?;
+    compare_all(&CSV, &logs)?;
+    compare_all(&BLOCKS, &blocks)?;
+    compare_all(&SAVE, &saved)?;
+    compare_all(&OPEN, &opened)?;
+    println!("archive and plain agree on all sheets, exports, programs with blocks and records");
+    for (form, (halves, kinds)) in Form::ALL.into_iter().zip(&sheets) {
+        time_sheets(form, halves, kinds);
+    }
+    println!("full exports of a belt log:");
+    time(&CSV, &logs);
+    println!("programs with blocks, of 64 commands:");
+    time(&BLOCKS, &blocks);
     println!("full records, saved as sheets and opened from them:");
-    print!("{}", timing::report(&SAVE, &saved, &[Row("saved", &[0])]));
-    print!("{}", timing::report(&OPEN, &opened, &[Row("opened", &[0])]));
+    time(&SAVE, &saved);
+    time(&OPEN, &opened);
     Ok(())
+}
+
+/// Times both sides on the sheets of a form: all, each half, and each kind of turns.
+fn time_sheets(form: Form, halves: &[Group], kinds: &[Group]) {
+    let (number, name) = match form {
+        Form::One => (1, "all"),
+        Form::Two => (2, "two"),
+    };
+    let all = Row(name, 0..halves.len());
+    let rows: Vec<Row> = [all].into_iter().chain(timing::each(halves)).collect();
+    println!("sheets of form {number}:");
+    print!("{}", timing::report(&RUN, halves, &rows));
+    println!("long runs of form {number}, by the kind of their turns:");
+    time(&RUN, kinds);
+}
+
+/// Times both sides on each group by itself.
+fn time<const N: usize>(sides: &Sides<N>, groups: &[Group]) {
+    print!("{}", timing::report(sides, groups, &timing::each(groups)));
+}
+
+fn compare_all<const N: usize>(sides: &Sides<N>, groups: &[Group]) -> Result<(), String> {
+    groups.iter().try_for_each(|group| compare(sides, group))
 }
 
 /// Both sides on each text: the numbers, and every byte of the output memory.
@@ -145,17 +163,8 @@ fn compare<const N: usize>(sides: &Sides<N>, group: &Group) -> Result<(), String
 /// Runs one side over each text, COUNT times, and prints what one such pass comes to.
 fn run_one(side: &str, count: &str, name: &str) -> Result<(), String> {
     let count: u32 = count.parse().map_err(|_| usage())?;
-    let groups = match name {
-        "all" => vec![sheets::long(), sheets::short()],
-        "long" => vec![sheets::long()],
-        "short" => vec![sheets::short()],
-        "largest" => vec![sheets::largest()],
-        "log" => vec![logs::full()],
-        "blocks" => vec![blocks::full()],
-        "saved" => vec![records::saved()],
-        "opened" => vec![records::opened()],
-        kind => of_kind(kind)?,
-    };
+    let (form, name) = form_and_name(name);
+    let groups = groups_of(form, name)?;
     match (name, side) {
         ("log", "archive") => passes(CSV.archive, count, &groups),
         ("log", _) => passes(CSV.plain, count, &groups),
@@ -175,9 +184,34 @@ fn run_one(side: &str, count: &str, name: &str) -> Result<(), String> {
     Ok(())
 }
 
+/// What a name means: `two` are all sheets of form 2, and names of that form begin so.
+fn form_and_name(name: &str) -> (Form, &str) {
+    match name.strip_prefix("two ") {
+        Some(rest) => (Form::Two, rest),
+        None if name == "two" => (Form::Two, "all"),
+        None => (Form::One, name),
+    }
+}
+
+fn groups_of(form: Form, name: &str) -> Result<Vec<Group>, String> {
+    let groups = match (form, name) {
+        (_, "all") => sheets::halves(form),
+        (_, "long") => vec![sheets::long(form)],
+        (_, "short") => vec![sheets::short(form)],
+        (_, "largest") => vec![sheets::largest(form)],
+        (_, "saved") => vec![records::saved(form)],
+        (_, "opened") => vec![records::opened(form)],
+        (Form::One, "log") => vec![logs::full()],
+        (Form::One, "blocks") => vec![blocks::full()],
+        (_, kind) => of_kind(form, kind)?,
+    };
+    Ok(groups)
+}
+
 /// The long runs whose turns are of one kind.
-fn of_kind(name: &str) -> Result<Vec<Group>, String> {
-    let mut kinds = sheets::kinds();
+fn of_kind(form: Form, name: &str) -> Result<Vec<Group>, String> {
+    let name = Group::of_form(form, name).name;
+    let mut kinds = sheets::kinds(form);
     kinds.retain(|kind| kind.name == name);
     if kinds.is_empty() {
         return Err(usage());
@@ -205,16 +239,16 @@ fn pass<const N: usize>(side: Side<N>, group: &Group, output: &mut [u8]) {
 /// Writes each text to a file of its own: sheets `.txt`, exports `.csv`, programs `.blocks`, the sheets
 /// of records `.record`.
 fn write_texts(folder: &str) -> Result<(), String> {
-    let sheets = [sheets::long(), sheets::short(), sheets::largest()];
-    let sheets = sheets.map(|group| (group, "txt"));
-    let others = [
-        (logs::full(), "csv"),
-        (blocks::full(), "blocks"),
-        (records::opened(), "record"),
-    ];
-    for (group, suffix) in sheets.into_iter().chain(others) {
+    let mut groups = vec![(logs::full(), "csv"), (blocks::full(), "blocks")];
+    for form in Form::ALL {
+        groups.extend(sheets::halves(form).into_iter().map(|half| (half, "txt")));
+        groups.push((sheets::largest(form), "txt"));
+        groups.push((records::opened(form), "record"));
+    }
+    for (group, suffix) in groups {
+        let name = group.name.replace(' ', "_");
         for (place, text) in group.texts.iter().enumerate() {
-            let file = Path::new(folder).join(format!("{}_{place:03}.{suffix}", group.name));
+            let file = Path::new(folder).join(format!("{name}_{place:03}.{suffix}"));
             let failed = |error| format!("{}: {error}", file.display());
             std::fs::write(&file, text).map_err(failed)?;
         }

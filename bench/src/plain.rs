@@ -1,7 +1,7 @@
 //! The confidential run as a straightforward Rust program: safe, idiomatic, not tuned. It accepts
-//! the sheets that document 01 accepts, but does not say why it refuses the others. Calls of the high
-//! execution move on as Note 2 of document 02 says, and the clamped results of the low one are counted
-//! as Note 3 says.
+//! the sheets that document 01 accepts, and those of form 2 that Note 8 of document 02 accepts, but does
+//! not say why it refuses the others. Calls of an owner's execution move on as Note 2 says, and the
+//! clamped results of the low one are counted as Note 3 says.
 
 const MOST_BYTES: usize = 16_384;
 pub const MOST_KEYS: usize = 8;
@@ -13,13 +13,58 @@ pub const VARIABLES: usize = 8;
 /// One entry or none for each key.
 pub type Entries = [Option<i32>; MOST_KEYS];
 
+/// A secret or none for each key.
+pub type Secrets = [Option<Secret>; MOST_KEYS];
+
 /// What a sheet says. The letters stay in the sheet.
 pub struct Job<'a> {
+    pub form: Form,
     pub keys: usize,
-    pub secrets: Entries,
+    pub secrets: Secrets,
     pub commands: Vec<Command>,
     pub messages: Vec<Entries>,
     pub turns: &'a [u8],
+}
+
+/// The number of a sheet.
+#[derive(Clone, Copy)]
+pub enum Form {
+    One,
+    Two,
+}
+
+impl Form {
+    /// The executions that follow the low one.
+    fn followers(self) -> usize {
+        match self {
+            Form::One => 1,
+            Form::Two => 2,
+        }
+    }
+}
+
+#[derive(Clone, Copy)]
+pub struct Secret {
+    pub dummy: i32,
+    pub owner: Owner,
+}
+
+/// Whose a secret is. In a sheet of form 1 each is that of the high execution.
+#[derive(Clone, Copy, PartialEq)]
+pub enum Owner {
+    H,
+    A,
+    B,
+}
+
+impl Owner {
+    /// The place of its execution among those that follow the low one.
+    fn place(self) -> usize {
+        match self {
+            Owner::H | Owner::A => 0,
+            Owner::B => 1,
+        }
+    }
 }
 
 #[derive(Clone, Copy)]
@@ -58,18 +103,21 @@ pub fn read(sheet: &[u8]) -> Option<Job<'_>> {
         return None;
     }
     let mut lines = Lines::of(sheet.strip_suffix(b"\n")?);
-    if lines.next_named(b"sheet=")? != b"1" {
-        return None;
-    }
+    let form = match lines.next_named(b"sheet=")? {
+        b"1" => Form::One,
+        b"2" => Form::Two,
+        _ => return None,
+    };
     let keys = small(lines.next_named(b"keys=")?, 1, MOST_KEYS)?;
-    let secrets = read_secrets(&mut lines, keys)?;
+    let secrets = read_secrets(&mut lines, form, keys)?;
     let commands = read_commands(&mut lines, keys)?;
     let messages = read_messages(&mut lines, keys)?;
     let turns = lines.next_named(b"turns=")?;
-    if !lines.at_end() || !targets_good(&commands) || !turns_good(turns) {
+    if !lines.at_end() || !targets_good(&commands) || !turns_good(form, turns) {
         return None;
     }
     Some(Job {
+        form,
         keys,
         secrets,
         commands,
@@ -85,8 +133,11 @@ pub fn targets_good(commands: &[Command]) -> bool {
     })
 }
 
-pub fn turns_good(turns: &[u8]) -> bool {
-    let letter = |&byte: &u8| byte == b'L' || byte == b'H';
+pub fn turns_good(form: Form, turns: &[u8]) -> bool {
+    let letter = |&byte: &u8| match form {
+        Form::One => byte == b'L' || byte == b'H',
+        Form::Two => byte == b'L' || byte == b'A' || byte == b'B',
+    };
     (1..=MOST_TURNS).contains(&turns.len()) && turns.iter().all(letter)
 }
 
@@ -120,15 +171,26 @@ impl<'a> Lines<'a> {
     }
 }
 
-fn read_secrets(lines: &mut Lines, keys: usize) -> Option<Entries> {
+fn read_secrets(lines: &mut Lines, form: Form, keys: usize) -> Option<Secrets> {
     let mut secrets = [None; MOST_KEYS];
     let mut lowest = 0;
     while let Some(text) = lines.next_named(b"secret=") {
-        let (key, dummy) = entry(text, lowest, keys)?;
-        secrets[key] = Some(dummy);
+        let (part, owner) = owned(form, text)?;
+        let (key, dummy) = entry(part, lowest, keys)?;
+        secrets[key] = Some(Secret { dummy, owner });
         lowest = key + 1;
     }
     Some(secrets)
+}
+
+/// The `key:dummy` part of a secret line, and whose it is.
+fn owned(form: Form, text: &[u8]) -> Option<(&[u8], Owner)> {
+    match (form, text) {
+        (Form::One, part) => Some((part, Owner::H)),
+        (Form::Two, [part @ .., b':', b'A']) => Some((part, Owner::A)),
+        (Form::Two, [part @ .., b':', b'B']) => Some((part, Owner::B)),
+        _ => None,
+    }
 }
 
 fn read_commands(lines: &mut Lines, keys: usize) -> Option<Vec<Command>> {
@@ -249,6 +311,31 @@ struct Execution {
     clamped: u32,
 }
 
+/// The execution of an owner, and how many calls it has moved on from.
+#[derive(Default)]
+struct Follower {
+    execution: Execution,
+    calls: usize,
+}
+
+impl Follower {
+    /// A turn, which passes idle at the end and at a call that the low execution has not made.
+    fn turn(&mut self, commands: &[Command], low_calls: &[Call]) {
+        let Some(&command) = commands.get(self.execution.place) else {
+            return;
+        };
+        let call = match command {
+            Command::Receive => Some(Call::Receive),
+            Command::Send => Some(Call::Send),
+            _ => None,
+        };
+        if call.is_none() || low_calls.get(self.calls).copied() == call {
+            self.calls += usize::from(call.is_some());
+            self.execution.step(command, commands.len());
+        }
+    }
+}
+
 impl Execution {
     fn step(&mut self, command: Command, end: usize) {
         let variables = &mut self.variables;
@@ -311,8 +398,10 @@ fn quotient(v: i32, w: i32) -> i64 {
 fn run_job(job: &Job, output: &mut [u8]) -> [u32; 7] {
     let end = job.commands.len();
     let width = 10 + 12 * job.keys;
-    let (mut low, mut high) = (Execution::default(), Execution::default());
-    let (mut low_calls, mut high_calls) = (Vec::with_capacity(MOST_TURNS), 0);
+    let mut low = Execution::default();
+    let mut followers = [Follower::default(), Follower::default()];
+    let followers = &mut followers[..job.form.followers()];
+    let mut low_calls = Vec::with_capacity(MOST_TURNS);
     let (mut positions, mut low_steps, mut written, mut taken) = (0, 0, 0, 0);
     let ending = loop {
         let Some(&command) = job.commands.get(low.place) else {
@@ -321,35 +410,29 @@ fn run_job(job: &Job, output: &mut [u8]) -> [u32; 7] {
         let Some(&letter) = job.turns.get(positions) else {
             break 31;
         };
-        if letter == b'L' {
-            match command {
-                Command::Receive => {
-                    receive(job, taken, &mut low.fields, &mut high.fields);
-                    taken = job.messages.len().min(taken + 1);
-                    low_calls.push(Call::Receive);
+        match letter {
+            b'L' => {
+                match command {
+                    Command::Receive => {
+                        receive(job, taken, &mut low, followers);
+                        taken = job.messages.len().min(taken + 1);
+                        low_calls.push(Call::Receive);
+                    }
+                    Command::Send => {
+                        let Some(line) = output.get_mut(written..written + width) else {
+                            break 32;
+                        };
+                        write_line(line, job, positions, &low, followers);
+                        written += width;
+                        low_calls.push(Call::Send);
+                    }
+                    _ => {}
                 }
-                Command::Send => {
-                    let Some(line) = output.get_mut(written..written + width) else {
-                        break 32;
-                    };
-                    write_line(line, job, positions, &low.fields, &high.fields);
-                    written += width;
-                    low_calls.push(Call::Send);
-                }
-                _ => {}
+                low.step(command, end);
+                low_steps += 1;
             }
-            low.step(command, end);
-            low_steps += 1;
-        } else if let Some(&command) = job.commands.get(high.place) {
-            let call = match command {
-                Command::Receive => Some(Call::Receive),
-                Command::Send => Some(Call::Send),
-                _ => None,
-            };
-            if call.is_none() || low_calls.get(high_calls).copied() == call {
-                high_calls += usize::from(call.is_some());
-                high.step(command, end);
-            }
+            b'B' => followers[1].turn(&job.commands, &low_calls),
+            _ => followers[0].turn(&job.commands, &low_calls),
         }
         positions += 1;
     };
@@ -364,24 +447,44 @@ fn run_job(job: &Job, output: &mut [u8]) -> [u32; 7] {
     ]
 }
 
-fn receive(job: &Job, taken: usize, low: &mut Entries, high: &mut Entries) {
+fn receive(job: &Job, taken: usize, low: &mut Execution, followers: &mut [Follower]) {
     let Some(line) = job.messages.get(taken) else {
-        *low = [None; MOST_KEYS];
-        *high = [None; MOST_KEYS];
+        low.fields = [None; MOST_KEYS];
+        for follower in followers {
+            follower.execution.fields = [None; MOST_KEYS];
+        }
         return;
     };
-    *high = *line;
+    low.fields = *line;
+    for follower in followers.iter_mut() {
+        follower.execution.fields = *line;
+    }
     for key in 0..job.keys {
-        low[key] = job.secrets[key].or(line[key]);
+        if let Some(Secret { dummy, owner }) = job.secrets[key] {
+            low.fields[key] = Some(dummy);
+            for (place, follower) in followers.iter_mut().enumerate() {
+                if place != owner.place() {
+                    follower.execution.fields[key] = Some(dummy);
+                }
+            }
+        }
     }
 }
 
-fn write_line(line: &mut [u8], job: &Job, position: usize, low: &Entries, high: &Entries) {
+fn write_line(
+    line: &mut [u8],
+    job: &Job,
+    position: usize,
+    low: &Execution,
+    followers: &[Follower],
+) {
     line[..5].copy_from_slice(b"sent=");
     write_digits(&mut line[5..9], position as u32);
     for key in 0..job.keys {
-        let secret = job.secrets[key].is_some();
-        let field = if secret { high[key] } else { low[key] };
+        let field = match job.secrets[key] {
+            Some(secret) => followers[secret.owner.place()].execution.fields[key],
+            None => low.fields[key],
+        };
         let column = &mut line[9 + 12 * key..21 + 12 * key];
         column[0] = b' ';
         match field {
@@ -405,7 +508,9 @@ fn write_digits(place: &mut [u8], mut number: u32) {
 #[cfg(test)]
 mod tests {
     use reference::corners::corners;
-    use reference::generate::{accepted, damaged, memory_length, noise, Rng, Shape};
+    use reference::generate::{accepted_by, crossed, damaged_by, memory_length, noise_by};
+    use reference::generate::{Rng, Shape};
+    use reference::model::Form;
     use reference::run_sheet;
 
     fn check(sheet: &[u8], lent: usize) {
@@ -422,22 +527,46 @@ mod tests {
         assert!(output == wanted, "{}", sheet.escape_ascii());
     }
 
+    fn check_random(form: Form, seed: u64) {
+        let mut rng = Rng::new(seed);
+        for place in 0..20_000 {
+            let sheet = match place % 8 {
+                0 | 1 => noise_by(form, &mut rng),
+                2..=4 => damaged_by(form, &mut rng),
+                5 => crossed(&mut rng),
+                _ => {
+                    let shape = rng.pick(&Shape::ALL);
+                    accepted_by(form, &mut rng, shape)
+                }
+            };
+            check(&sheet, memory_length(&mut rng, &sheet));
+        }
+    }
+
     #[test]
     fn it_runs_what_the_reference_runs_and_refuses_what_it_refuses() {
         for corner in corners() {
             check(&corner.sheet, corner.lent);
         }
-        let mut rng = Rng::new(1);
-        for place in 0..20_000 {
-            let sheet = match place % 4 {
-                0 => noise(&mut rng),
-                1 | 2 => damaged(&mut rng),
-                _ => {
-                    let shape = rng.pick(&Shape::ALL);
-                    accepted(&mut rng, shape)
+        check_random(Form::One, 1);
+        check_random(Form::Two, 2);
+    }
+
+    /// A wrong byte where a line or a part is divided is rare in random sheets.
+    #[test]
+    fn it_looks_at_every_byte() {
+        let sheets: [&[u8]; 2] = [
+            b"sheet=1\nkeys=2\nsecret=1:300\ndo=receive\ndo=send\nmsg=0:15,1:14\nturns=LHL\n",
+            b"sheet=2\nkeys=2\nsecret=0:30:A\nsecret=1:40:B\ndo=receive\ndo=send\nmsg=0:1,1:2\nturns=LABL\n",
+        ];
+        for sheet in sheets {
+            for place in 0..sheet.len() {
+                for byte in 0..=255 {
+                    let mut sheet = sheet.to_vec();
+                    sheet[place] = byte;
+                    check(&sheet, 100);
                 }
-            };
-            check(&sheet, memory_length(&mut rng, &sheet));
+            }
         }
     }
 }

@@ -1,14 +1,14 @@
 //! A record saved as a sheet, and a sheet opened as a record, as a straightforward Rust program: safe,
-//! idiomatic, not tuned. Saving answers what Note 7 of document 02 demands. Opening reads with the
-//! program that runs sheets, so it accepts what document 01 accepts, but does not say why it refuses
-//! the others.
+//! idiomatic, not tuned. Saving answers what Notes 7 and 8 of document 02 demand. Opening reads with the
+//! program that runs sheets, so it accepts what document 01 and Note 8 accept, but does not say why it
+//! refuses the others.
 
-use crate::plain::{read, targets_good, turns_good, Command, Entries, Job};
-use crate::plain::{MOST_COMMANDS, MOST_KEYS, VARIABLES};
-use pavebox::{Command as Coded, Entry, Job as Record, Message, Secret};
+use crate::plain::{read, targets_good, turns_good, Command, Entries, Form, Job, Owner};
+use crate::plain::{Secret, Secrets, MOST_COMMANDS, MOST_KEYS, VARIABLES};
+use pavebox::{Command as Coded, Entry, Job as Record, Message, OWNER_A, OWNER_B};
 
 /// No sheet of a record is longer.
-const MOST_SHEET: usize = 6_270;
+const MOST_SHEET: usize = 6_286;
 
 // Saving.
 
@@ -29,18 +29,24 @@ pub fn save(record: &Record, output: &mut [u8]) -> [u32; 2] {
 
 /// The job that a record is, if its numbers are within their limits.
 fn job_of(record: &Record) -> Option<Job<'_>> {
+    let form = match record.form {
+        1 => Form::One,
+        2 => Form::Two,
+        _ => return None,
+    };
     let keys = record.keys as usize;
-    if record.form != 1 || !(1..=MOST_KEYS).contains(&keys) {
+    if !(1..=MOST_KEYS).contains(&keys) {
         return None;
     }
-    let secrets = secrets_of(covered(&record.secrets, record.secret_count)?, keys)?;
+    let secrets = secrets_of(covered(&record.secrets, record.secret_count)?, form, keys)?;
     let commands = commands_of(covered(&record.commands, record.command_count)?, keys)?;
     let messages = messages_of(covered(&record.messages, record.message_count)?, keys)?;
     let turns = covered(&record.letters, record.letter_count)?;
-    if !targets_good(&commands) || !turns_good(turns) {
+    if !targets_good(&commands) || !turns_good(form, turns) {
         return None;
     }
     Some(Job {
+        form,
         keys,
         secrets,
         commands,
@@ -54,29 +60,41 @@ fn covered<T>(places: &[T], count: u32) -> Option<&[T]> {
     places.get(..count as usize)
 }
 
-fn secrets_of(secrets: &[Secret], keys: usize) -> Option<Entries> {
-    if secrets.iter().any(|secret| secret.owner != 0) {
-        return None;
-    }
-    entries_of(
-        secrets.iter().map(|secret| (secret.key, secret.dummy)),
-        keys,
-    )
+fn secrets_of(secrets: &[pavebox::Secret], form: Form, keys: usize) -> Option<Secrets> {
+    let secret = |coded: &pavebox::Secret| {
+        let owner = owner_of(form, coded.owner)?;
+        let dummy = coded.dummy;
+        Some((coded.key, Secret { dummy, owner }))
+    };
+    by_key(secrets.iter().map(secret), keys)
 }
 
-/// Entries whose keys rise.
-fn entries_of(parts: impl Iterator<Item = (u32, i32)>, keys: usize) -> Option<Entries> {
-    let mut entries = [None; MOST_KEYS];
+fn owner_of(form: Form, number: u32) -> Option<Owner> {
+    match (form, number) {
+        (Form::One, 0) => Some(Owner::H),
+        (Form::Two, OWNER_A) => Some(Owner::A),
+        (Form::Two, OWNER_B) => Some(Owner::B),
+        _ => None,
+    }
+}
+
+/// What stands at keys that rise, each at the place of its key.
+fn by_key<T: Copy>(
+    parts: impl Iterator<Item = Option<(u32, T)>>,
+    keys: usize,
+) -> Option<[Option<T>; MOST_KEYS]> {
+    let mut places = [None; MOST_KEYS];
     let mut lowest = 0;
-    for (key, value) in parts {
+    for part in parts {
+        let (key, value) = part?;
         let key = key as usize;
         if !(lowest..keys).contains(&key) {
             return None;
         }
-        entries[key] = Some(value);
+        places[key] = Some(value);
         lowest = key + 1;
     }
-    Some(entries)
+    Some(places)
 }
 
 fn commands_of(commands: &[Coded], keys: usize) -> Option<Vec<Command>> {
@@ -115,22 +133,27 @@ fn command_of(coded: &Coded, keys: usize) -> Option<Command> {
 }
 
 fn messages_of(messages: &[Message], keys: usize) -> Option<Vec<Entries>> {
+    let entry = |entry: &Entry| Some((entry.key, entry.value));
     let message = |message: &Message| {
         let entries = covered(&message.entries, message.entry_count)?;
-        entries_of(entries.iter().map(|entry| (entry.key, entry.value)), keys)
+        by_key(entries.iter().map(entry), keys)
     };
     messages.iter().map(message).collect()
 }
 
 fn sheet_of(job: &Job) -> Vec<u8> {
     let mut text = Vec::with_capacity(MOST_SHEET);
-    text.extend_from_slice(b"sheet=1\nkeys=");
+    text.extend_from_slice(match job.form {
+        Form::One => b"sheet=1\nkeys=",
+        Form::Two => b"sheet=2\nkeys=",
+    });
     write_small(&mut text, job.keys);
     text.push(b'\n');
-    for (key, &dummy) in job.secrets.iter().enumerate() {
-        if let Some(dummy) = dummy {
+    for (key, &secret) in job.secrets.iter().enumerate() {
+        if let Some(Secret { dummy, owner }) = secret {
             text.extend_from_slice(b"secret=");
             write_entry(&mut text, key, dummy);
+            write_owner(&mut text, owner);
             text.push(b'\n');
         }
     }
@@ -148,6 +171,15 @@ fn sheet_of(job: &Job) -> Vec<u8> {
     text.extend_from_slice(job.turns);
     text.push(b'\n');
     text
+}
+
+/// In a sheet of form 1 no owner is named.
+fn write_owner(text: &mut Vec<u8>, owner: Owner) {
+    match owner {
+        Owner::H => {}
+        Owner::A => text.extend_from_slice(b":A"),
+        Owner::B => text.extend_from_slice(b":B"),
+    }
 }
 
 fn write_message(text: &mut Vec<u8>, message: &Entries) {
@@ -239,15 +271,18 @@ pub fn open(sheet: &[u8], record: &mut Record) -> Option<[u32; 2]> {
 
 /// Puts a job into the record. What its counts do not cover stays as it is.
 fn fill(record: &mut Record, job: &Job) {
-    record.form = 1;
+    record.form = match job.form {
+        Form::One => 1,
+        Form::Two => 2,
+    };
     record.keys = job.keys as u32;
     record.secret_count = 0;
-    for (key, &dummy) in job.secrets.iter().enumerate() {
-        if let Some(dummy) = dummy {
-            record.secrets[record.secret_count as usize] = Secret {
+    for (key, &secret) in job.secrets.iter().enumerate() {
+        if let Some(Secret { dummy, owner }) = secret {
+            record.secrets[record.secret_count as usize] = pavebox::Secret {
                 key: key as u32,
                 dummy,
-                owner: 0,
+                owner: owner_number(owner),
             };
             record.secret_count += 1;
         }
@@ -262,6 +297,14 @@ fn fill(record: &mut Record, job: &Job) {
     }
     record.letter_count = job.turns.len() as u32;
     record.letters[..job.turns.len()].copy_from_slice(job.turns);
+}
+
+fn owner_number(owner: Owner) -> u32 {
+    match owner {
+        Owner::H => 0,
+        Owner::A => OWNER_A,
+        Owner::B => OWNER_B,
+    }
 }
 
 fn fill_message(place: &mut Message, message: &Entries) {
@@ -328,10 +371,10 @@ mod tests {
     use crate::records::record_in;
     use pavebox::Job;
     use reference::corners::records::{corners, opened};
-    use reference::generate::records::{
-        arbitrary, damaged, damaged_again, memory_length, old, passing,
-    };
+    use reference::generate::records::{arbitrary_by, damaged_again_by, damaged_by, memory_length};
+    use reference::generate::records::{old_by, passing_by};
     use reference::generate::{self, Rng, Shape};
+    use reference::model::Form;
     use reference::record::{listing, open, pack, text, write, Record};
 
     /// The same record, as a C program has it.
@@ -356,18 +399,14 @@ mod tests {
         assert!(found == job(&wanted), "{sheet_text}");
     }
 
-    #[test]
-    fn it_saves_what_the_reference_saves_and_refuses_what_it_refuses() {
-        for corner in corners() {
-            check_saving(&corner.record, corner.lent);
-        }
-        let mut rng = Rng::new(1);
+    fn check_random_saving(form: Form, seed: u64) {
+        let mut rng = Rng::new(seed);
         for place in 0..20_000 {
             let record = match place % 5 {
-                0 => arbitrary(&mut rng),
-                1 | 2 => damaged(&mut rng),
-                3 => damaged_again(&mut rng),
-                _ => passing(&mut rng),
+                0 => arbitrary_by(form, &mut rng),
+                1 | 2 => damaged_by(form, &mut rng),
+                3 => damaged_again_by(form, &mut rng),
+                _ => passing_by(form, &mut rng),
             };
             let lent = memory_length(&mut rng, &record);
             check_saving(&record, lent);
@@ -375,24 +414,42 @@ mod tests {
     }
 
     #[test]
+    fn it_saves_what_the_reference_saves_and_refuses_what_it_refuses() {
+        for corner in corners() {
+            check_saving(&corner.record, corner.lent);
+        }
+        check_random_saving(Form::One, 1);
+        check_random_saving(Form::Two, 2);
+    }
+
+    fn check_random_opening(form: Form, seed: u64) {
+        let mut rng = Rng::new(seed);
+        for place in 0..20_000 {
+            let sheet = match place % 6 {
+                0 => generate::noise_by(form, &mut rng),
+                1 | 2 => generate::damaged_by(form, &mut rng),
+                3 => text(&passing_by(form, &mut rng)),
+                4 => generate::crossed(&mut rng),
+                _ => {
+                    let shape = rng.pick(&Shape::ALL);
+                    generate::accepted_by(form, &mut rng, shape)
+                }
+            };
+            // What was there before may be of either form.
+            let before = rng.pick(&Form::ALL);
+            check_opening(&sheet, &old_by(before, &mut rng));
+        }
+    }
+
+    #[test]
     fn it_opens_what_the_reference_opens_and_refuses_what_it_refuses() {
-        let mut rng = Rng::new(2);
+        let mut rng = Rng::new(3);
         let sheets = reference::corners::corners().into_iter();
         let opened = opened().into_iter().map(|corner| corner.sheet);
         for sheet in opened.chain(sheets.map(|corner| corner.sheet)) {
-            check_opening(&sheet, &old(&mut rng));
+            check_opening(&sheet, &old_by(Form::One, &mut rng));
         }
-        for place in 0..20_000 {
-            let sheet = match place % 5 {
-                0 => generate::noise(&mut rng),
-                1 | 2 => generate::damaged(&mut rng),
-                3 => text(&passing(&mut rng)),
-                _ => {
-                    let shape = rng.pick(&Shape::ALL);
-                    generate::accepted(&mut rng, shape)
-                }
-            };
-            check_opening(&sheet, &old(&mut rng));
-        }
+        check_random_opening(Form::One, 4);
+        check_random_opening(Form::Two, 5);
     }
 }

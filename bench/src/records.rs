@@ -1,9 +1,9 @@
-//! The records of the comparison, and their sheets: the same 50 every time.
+//! The records of the comparison, and their sheets: the same 50 of each form every time.
 
 use crate::sheets::Group;
 use pavebox::{Job, JOB_BYTES};
 use reference::generate::Rng;
-use reference::model::{MOST_COMMANDS, MOST_KEYS, MOST_MESSAGES, MOST_TURNS, VARIABLES};
+use reference::model::{Form, MOST_COMMANDS, MOST_KEYS, MOST_MESSAGES, MOST_TURNS, VARIABLES};
 use reference::record::{pack, text, Coded, Entry, Operand, Record, Secret, EMPTY, WORDS};
 
 const SEED: u64 = 2026;
@@ -11,9 +11,9 @@ const COUNT: usize = 50;
 
 /// Full records: every key, and each of them secret, as many commands, messages, entries and letters as
 /// there may be. The bytes are those of the sheets that they are saved as.
-pub fn saved() -> Group {
-    let mut saved = Group::new("saved");
-    for record in records() {
+pub fn saved(form: Form) -> Group {
+    let mut saved = Group::of_form(form, "saved");
+    for record in records(form) {
         saved.bytes += text(&record).len();
         saved.texts.push(pack(&record));
     }
@@ -21,9 +21,9 @@ pub fn saved() -> Group {
 }
 
 /// The sheets of the same records.
-pub fn opened() -> Group {
-    let mut opened = Group::new("opened");
-    for record in records() {
+pub fn opened(form: Form) -> Group {
+    let mut opened = Group::of_form(form, "opened");
+    for record in records(form) {
         opened.add(text(&record), 0);
     }
     opened
@@ -39,18 +39,22 @@ pub fn record_in_mut(bytes: &mut [u8]) -> &mut Job {
     Job::in_bytes_mut(&mut bytes[..JOB_BYTES]).expect("the memory of a record is aligned")
 }
 
-fn records() -> Vec<Record> {
+fn records(form: Form) -> Vec<Record> {
     let mut rng = Rng::new(SEED);
-    (0..COUNT).map(|_| full(&mut rng)).collect()
+    (0..COUNT).map(|_| full(form, &mut rng)).collect()
 }
 
-fn full(rng: &mut Rng) -> Record {
+fn full(form: Form, rng: &mut Rng) -> Record {
     let mut record = EMPTY;
-    record.form = 1;
+    record.form = form.number() as u32;
     record.keys = MOST_KEYS as u32;
     record.secret_count = record.keys;
     for (key, secret) in (0..record.keys).zip(&mut record.secrets) {
-        let (dummy, owner) = (number(rng), 0);
+        let dummy = number(rng);
+        let owner = match form {
+            Form::One => 0,
+            Form::Two => rng.pick(b"AB").into(),
+        };
         *secret = Secret { key, dummy, owner };
     }
     record.command_count = MOST_COMMANDS as u32;
@@ -66,8 +70,12 @@ fn full(rng: &mut Rng) -> Record {
         }
     }
     record.letter_count = MOST_TURNS as u32;
+    let letters: &[u8] = match form {
+        Form::One => b"LH",
+        Form::Two => b"LAB",
+    };
     for letter in &mut record.letters {
-        *letter = rng.pick(b"LH");
+        *letter = rng.pick(letters);
     }
     record
 }
@@ -106,24 +114,32 @@ fn number(rng: &mut Rng) -> i32 {
 
 #[cfg(test)]
 mod tests {
+    use reference::model::Form;
     use reference::record::{faults, unpack, write, RECORD_BYTES};
 
     #[test]
     fn all_are_full_and_have_the_sheets_that_are_opened() {
-        let (saved, opened) = (super::saved(), super::opened());
-        assert_eq!((saved.texts.len(), opened.texts.len()), (50, 50));
-        assert_eq!(saved.bytes, opened.bytes);
-        for (record, sheet) in saved.texts.iter().zip(&opened.texts) {
-            assert_eq!(record.len(), RECORD_BYTES);
-            let record = unpack(record);
-            assert!(faults(&record).is_empty());
-            let counts = [record.keys, record.secret_count, record.command_count];
-            assert_eq!(counts, [8, 8, 64]);
-            assert_eq!([record.message_count, record.letter_count], [32, 1_024]);
-            assert!(record.messages.iter().all(|m| m.entry_count == 8));
-            let mut output = vec![0; sheet.len()];
-            assert_eq!(write(&record, &mut output), [0, sheet.len() as u32]);
-            assert!(output == *sheet);
+        for form in Form::ALL {
+            let (saved, opened) = (super::saved(form), super::opened(form));
+            assert_eq!((saved.texts.len(), opened.texts.len()), (50, 50));
+            assert_eq!(saved.bytes, opened.bytes);
+            for (record, sheet) in saved.texts.iter().zip(&opened.texts) {
+                check(form, record, sheet);
+            }
         }
+    }
+
+    fn check(form: Form, record: &[u8], sheet: &[u8]) {
+        assert_eq!(record.len(), RECORD_BYTES);
+        let record = unpack(record);
+        assert!(faults(&record).is_empty());
+        assert_eq!(record.form, form.number() as u32);
+        let counts = [record.keys, record.secret_count, record.command_count];
+        assert_eq!(counts, [8, 8, 64]);
+        assert_eq!([record.message_count, record.letter_count], [32, 1_024]);
+        assert!(record.messages.iter().all(|m| m.entry_count == 8));
+        let mut output = vec![0; sheet.len()];
+        assert_eq!(write(&record, &mut output), [0, sheet.len() as u32]);
+        assert!(output == *sheet);
     }
 }
