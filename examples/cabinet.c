@@ -30,7 +30,8 @@ static const char *words(uint32_t ending)
     case PAVEBOX_BAD_COMMAND: return "no such command";
     case PAVEBOX_BAD_TARGET: return "a target exceeds the count of commands";
     case PAVEBOX_TOO_MANY: return "too many commands, messages or letters";
-    case PAVEBOX_BAD_TURNS: return "no turns, or a letter other than L and H";
+    case PAVEBOX_BAD_TURNS: return "no turns, or a letter that its form does not have";
+    case PAVEBOX_BAD_OWNER: return "an owner other than A and B";
     default: return "the answer memory is not 28 bytes";
     }
 }

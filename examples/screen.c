@@ -76,8 +76,10 @@ static void slip(struct pavebox_secret *secret)
 static void change(struct pavebox_secret *secret)
 {
     const int32_t dummy = 310;
-    fprintf(stderr, "screen: the dummy at key %lu was %ld and is %ld\n",
-            (unsigned long)secret->key, (long)secret->dummy, (long)dummy);
+    fprintf(stderr, "screen: the dummy at key %lu", (unsigned long)secret->key);
+    if (job.form == 2)
+        fprintf(stderr, ", of owner %s,", secret->owner == PAVEBOX_OWNER_A ? "A" : "B");
+    fprintf(stderr, " was %ld and is %ld\n", (long)secret->dummy, (long)dummy);
     secret->dummy = dummy;
 }
 

@@ -1,8 +1,14 @@
 /*
- * The confidential run of one sheet: two executions, one message; the msg lines of a sheet out of the
- * export of a belt log; its do lines out of a program with blocks; and a sheet opened as a record and
- * saved from one. Link with libpavebox.a. Where read-only memory is short, link with
- * -Wl,--gc-sections: then only what the called entries need is kept.
+ * The confidential run of one sheet: a low execution and a high one, or one for each of two owners of
+ * secrets, and one message; the msg lines of a sheet out of the export of a belt log; its do lines out
+ * of a program with blocks; and a sheet opened as a record and saved from one. Link with libpavebox.a.
+ * Where read-only memory is short, link with -Wl,--gc-sections: then only what the called entries need
+ * is kept.
+ *
+ * A sheet has one of two forms, which its first line names. In form 1, sheet=1, the secrets have no
+ * owners, and the letters of turns are L and H. In form 2, sheet=2, each secret has an owner, A or B,
+ * and the letters are L, A and B: three executions. Every entry that takes a sheet or a record takes
+ * both forms. docs/SHEETS.md says what they mean.
  *
  * Stack, as measured on x86-64, in KB of 1,024 bytes: pavebox_run takes 20, pavebox_csv 7,
  * pavebox_blocks 7, pavebox_write 18 and pavebox_read 40.
@@ -36,14 +42,16 @@ extern "C" {
 #define PAVEBOX_SHEET_TOO_LONG 1u /* more than 16,384 bytes */
 #define PAVEBOX_BAD_BYTE 2u       /* a forbidden byte, no line feed at the end, or an empty sheet */
 #define PAVEBOX_BAD_NAME 3u       /* a name that may not stand here, no '=', or an early end */
-#define PAVEBOX_BAD_NUMBER 4u     /* a malformed number, one beyond its limit, or no colon */
+#define PAVEBOX_BAD_NUMBER 4u     /* a malformed number, one beyond its limit, or a missing colon */
 #define PAVEBOX_BAD_KEY_ORDER 5u  /* a key that is not greater than the one before it */
 #define PAVEBOX_BAD_COMMAND 6u    /* an unknown command word, or a wrong count of parts */
 #define PAVEBOX_BAD_TARGET 7u     /* a target that exceeds the count of commands */
 #define PAVEBOX_TOO_MANY 8u       /* a 65th command, a 33rd message, a 1,025th byte of turns */
-#define PAVEBOX_BAD_TURNS 9u      /* no turn, or a letter other than L and H */
+#define PAVEBOX_BAD_TURNS 9u      /* no turn, or a letter other than L and H, in form 2 other than
+                                     L, A and B */
 #define PAVEBOX_BAD_ANSWER 10u    /* the answer memory has another length than the entry's answer
                                      takes */
+#define PAVEBOX_BAD_OWNER 46u     /* form 2: the owner of a secret is neither A nor B */
 
 /*
  * Reads the sheet and runs it to its ending.
@@ -213,11 +221,11 @@ static inline struct pavebox_blocks_answer pavebox_read_blocks_answer(const uint
  * secret in form 1. So a record says nothing that its sheet does not say, and an accepted sheet is
  * the only one of its record.
  *
- * The record has places for later forms of sheets, with more keys and commands than form 1 allows and
- * with owners of secrets. Its layout does not change with them. It has no padding.
+ * The record holds both forms of sheets, whose limits are the same. It has places for more keys and
+ * commands than they allow, so that its layout need not change. It has no padding.
  */
-#define PAVEBOX_KEY_PLACES 16u      /* secrets, and entries of a message; form 1: at most K, 1 to 8 */
-#define PAVEBOX_COMMAND_PLACES 256u /* form 1: 1 to 64 */
+#define PAVEBOX_KEY_PLACES 16u      /* secrets, and entries of a message: at most K, 1 to 8 */
+#define PAVEBOX_COMMAND_PLACES 256u /* 1 to 64 */
 #define PAVEBOX_MESSAGE_PLACES 32u  /* none or more */
 #define PAVEBOX_LETTER_PLACES 1024u /* 1 or more */
 #define PAVEBOX_JOB_BYTES 11608u
@@ -239,11 +247,15 @@ static inline struct pavebox_blocks_answer pavebox_read_blocks_answer(const uint
 #define PAVEBOX_WORD_SEND 13u    /* none */
 #define PAVEBOX_WORD_STOP 14u    /* none */
 
-/* A line secret=key:dummy. */
+/* The owners of secrets in form 2: the bytes of their letters. */
+#define PAVEBOX_OWNER_A 65u
+#define PAVEBOX_OWNER_B 66u
+
+/* A line secret=key:dummy, in form 2 secret=key:dummy:owner. */
 struct pavebox_secret {
     uint32_t key;   /* below K, and greater than that of the secret before it */
     int32_t dummy;  /* any number */
-    uint32_t owner; /* 0 */
+    uint32_t owner; /* form 1: 0; form 2: PAVEBOX_OWNER_A or PAVEBOX_OWNER_B */
 };
 
 /* A line do=command. An operand that the word lacks is 0. */
@@ -268,7 +280,7 @@ struct pavebox_message {
 };
 
 struct pavebox_job {
-    uint32_t form; /* the number behind sheet=, which is 1 */
+    uint32_t form; /* the number behind sheet=, 1 or 2 */
     uint32_t keys; /* K, the number behind keys= */
     uint32_t secret_count;
     struct pavebox_secret secrets[PAVEBOX_KEY_PLACES];
@@ -277,7 +289,8 @@ struct pavebox_job {
     uint32_t message_count;
     struct pavebox_message messages[PAVEBOX_MESSAGE_PLACES];
     uint32_t letter_count;
-    uint8_t letters[PAVEBOX_LETTER_PLACES]; /* the bytes 'L' and 'H' behind turns= */
+    uint8_t letters[PAVEBOX_LETTER_PLACES]; /* the bytes behind turns=; form 1: 'L' and 'H'; form 2:
+                                               'L', 'A' and 'B' */
 };
 
 /* Does not compile where the record has another size. */
@@ -286,15 +299,16 @@ typedef char pavebox_job_size_check[sizeof(struct pavebox_job) == PAVEBOX_JOB_BY
 /* The answer memory of pavebox_write has exactly this many bytes. */
 #define PAVEBOX_WRITE_ANSWER_BYTES 8u
 
-/* No sheet that is written is longer. With this much output memory, or more,
- * PAVEBOX_NO_ROOM_FOR_SHEET never occurs. */
-#define PAVEBOX_MOST_WRITE_OUTPUT_BYTES 6270u
+/* No sheet that is written is longer: the longest of form 2 has so many bytes, that of form 1 has 16
+ * less. With this much output memory, or more, PAVEBOX_NO_ROOM_FOR_SHEET never occurs. */
+#define PAVEBOX_MOST_WRITE_OUTPUT_BYTES 6286u
 
 /* Refusals of a record: the output memory is untouched. PAVEBOX_BAD_ANSWER (the answer memory is not
  * exactly 8 bytes) is a further one. Success is PAVEBOX_WRITTEN. */
-#define PAVEBOX_BAD_RECORD 54u        /* a number or count outside its limits, an operand or owner that
-                                         should be 0, keys that do not rise, a letter other than L
-                                         and H, or a target that exceeds the count of commands */
+#define PAVEBOX_BAD_RECORD 54u        /* a number or count outside its limits, an operand that should be
+                                         0, an owner or a letter that the record's form does not have,
+                                         keys that do not rise, or a target that exceeds the count of
+                                         commands */
 #define PAVEBOX_NO_ROOM_FOR_SHEET 55u /* the output memory is shorter than the sheet */
 
 /*

@@ -10,6 +10,18 @@
 //! assert_eq!(&output[..22], b"sent=0001 +0000000007\n");
 //! ```
 //!
+//! Both forms of sheets are taken. In one of form 2 each secret has an owner, and each owner an execution:
+//!
+//! ```
+//! let sheet = b"sheet=2\nkeys=2\nsecret=0:300:A\nsecret=1:400:B\ndo=receive\ndo=read 0 1\ndo=put 0 0\n\
+//!     do=send\nmsg=0:10,1:20\nturns=LABLABLABLAB\n";
+//! let mut output = [0; 100];
+//! let answer = pavebox::run(sheet, &mut output);
+//! assert_eq!((answer.ending, answer.written), (pavebox::STOPPED, 34));
+//! // The program copies what it sees of B's entry into A's column. A's execution sees B's dummy.
+//! assert_eq!(&output[..34], b"sent=0009 +0000000400 +0000000020\n");
+//! ```
+//!
 //! [`csv`] makes the `msg` lines of a sheet out of the export of a belt log:
 //!
 //! ```
@@ -59,6 +71,8 @@ pub const NO_ROOM: u32 = 32;
 /// [`BLOCKS_ANSWER_BYTES`] long, [`write_entry`] if it is not exactly [`WRITE_ANSWER_BYTES`] long, and
 /// [`read_entry`] if it is not exactly [`READ_ANSWER_BYTES`] long.
 pub const BAD_ANSWER: u32 = 10;
+/// The refusal of a sheet of form 2 with a secret whose owner is neither `A` nor `B`.
+pub const BAD_OWNER: u32 = 46;
 
 /// The bytes of an answer of [`csv_entry`].
 pub const CSV_ANSWER_BYTES: usize = 12;
@@ -98,10 +112,10 @@ pub const TOO_DEEP: u32 = 52;
 /// memory.
 pub const NO_ROOM_FOR_COMMANDS: u32 = 53;
 
-/// The places of a [`Job`] for secrets, and of a [`Message`] for entries. In a sheet of form 1 there are at
-/// most as many of each as keys, 1 to 8.
+/// The places of a [`Job`] for secrets, and of a [`Message`] for entries. In a sheet there are at most as many
+/// of each as keys, 1 to 8.
 pub const KEY_PLACES: usize = 16;
-/// The places of a [`Job`] for commands, of which a sheet of form 1 has 1 to 64.
+/// The places of a [`Job`] for commands, of which a sheet has 1 to 64.
 pub const COMMAND_PLACES: usize = 256;
 /// The places of a [`Job`] for messages, of which a sheet has none or more.
 pub const MESSAGE_PLACES: usize = 32;
@@ -109,6 +123,10 @@ pub const MESSAGE_PLACES: usize = 32;
 pub const LETTER_PLACES: usize = 1_024;
 /// The bytes of a [`Job`].
 pub const JOB_BYTES: usize = 11_608;
+/// The owner `A` of a secret in a sheet of form 2.
+pub const OWNER_A: u32 = 65;
+/// The owner `B` of a secret in a sheet of form 2.
+pub const OWNER_B: u32 = 66;
 /// The word of `set v n`.
 pub const WORD_SET: u32 = 0;
 /// The word of `add v w`.
@@ -141,10 +159,11 @@ pub const WORD_SEND: u32 = 13;
 pub const WORD_STOP: u32 = 14;
 /// The bytes of an answer of [`write_entry`].
 pub const WRITE_ANSWER_BYTES: usize = 8;
-/// No record gives a longer sheet. With so much output memory [`NO_ROOM_FOR_SHEET`] never occurs.
-pub const MOST_WRITE_OUTPUT_BYTES: usize = 6_270;
-/// The refusal of a record with a number or count outside its limits, an operand or an owner that must be
-/// 0 and is not, keys that do not rise, a letter other than `L` and `H`, or a target above the count of
+/// No record gives a longer sheet. With so much output memory [`NO_ROOM_FOR_SHEET`] never occurs. One of
+/// form 2 can be so long, one of form 1 has at most 6,270 bytes.
+pub const MOST_WRITE_OUTPUT_BYTES: usize = 6_286;
+/// The refusal of a record with a number or count outside its limits, an operand that must be 0 and is not,
+/// an owner or a letter that its form does not have, keys that do not rise, or a target above the count of
 /// commands.
 pub const BAD_RECORD: u32 = 54;
 /// The refusal of a record whose sheet is longer than the output memory.
@@ -210,7 +229,7 @@ mod archive {
 /// The seven numbers of a run. After a refusal the last five are 0.
 #[derive(Debug, Clone, Copy, PartialEq, Eq)]
 pub struct Answer {
-    /// 0, 31 or 32 if the sheet ran, else the refusal from 1 to 9.
+    /// 0, 31 or 32 if the sheet ran, else the refusal: 1 to 9, or 46.
     pub ending: u32,
     /// The line that is refused, from 1; 0 if there is none.
     pub line: u32,
@@ -316,7 +335,7 @@ impl BlocksAnswer {
 pub struct Secret {
     pub key: u32,
     pub dummy: i32,
-    /// 0 in a sheet of form 1, where secrets have no owner.
+    /// 0 in a sheet of form 1, where secrets have no owner; [`OWNER_A`] or [`OWNER_B`] in one of form 2.
     pub owner: u32,
 }
 
@@ -355,7 +374,7 @@ pub struct Message {
 #[repr(C)]
 #[derive(Debug, Clone, PartialEq, Eq)]
 pub struct Job {
-    /// The number behind `sheet=`: 1.
+    /// The number behind `sheet=`: 1 or 2.
     pub form: u32,
     pub keys: u32,
     pub secret_count: u32,
@@ -365,7 +384,7 @@ pub struct Job {
     pub message_count: u32,
     pub messages: [Message; MESSAGE_PLACES],
     pub letter_count: u32,
-    /// `L` or `H` each.
+    /// `L` or `H` each in form 1, and `L`, `A` or `B` in form 2.
     pub letters: [u8; LETTER_PLACES],
 }
 
@@ -458,7 +477,7 @@ impl WriteAnswer {
 /// The two numbers of a sheet that is to be read.
 #[derive(Debug, Clone, Copy, PartialEq, Eq)]
 pub struct ReadAnswer {
-    /// 0 if the record holds the sheet, else the refusal from 1 to 9.
+    /// 0 if the record holds the sheet, else the refusal: 1 to 9, or 46.
     pub number: u32,
     /// The line that is refused, from 1; 0 if there is none.
     pub line: u32,
@@ -669,6 +688,53 @@ mod tests {
         let answer = run(high, &mut output);
         assert_eq!(answer.numbers(), [STOPPED, 0, 9, 5, 22, 1, 0]);
         assert_eq!(&output, b"sent=0008 +2147483647\n");
+    }
+
+    /// A secret of each owner. The program puts the sum of both, as an execution sees them, at both keys.
+    const OWNED: &[u8] =
+        b"sheet=2\nkeys=2\nsecret=0:300:A\nsecret=1:-400:B\ndo=receive\ndo=read 0 0\n\
+        do=read 1 1\ndo=add 0 1\ndo=put 0 0\ndo=put 1 0\ndo=send\nmsg=0:10,1:20\n\
+        turns=LABLABLABLABLABLABL\n";
+
+    #[test]
+    fn a_secret_column_comes_from_its_owners_execution() {
+        let sent = |sheet: &[u8]| {
+            let mut output = [b'~'; 34];
+            let answer = run(sheet, &mut output);
+            assert_eq!(answer.numbers(), [STOPPED, 0, 19, 7, 34, 1, 0]);
+            String::from_utf8(output.to_vec()).expect("digits")
+        };
+        let with = |message: &str| {
+            let sheet = String::from_utf8(OWNED.to_vec()).expect("letters");
+            sent(sheet.replace("msg=0:10,1:20", message).as_bytes())
+        };
+        assert_eq!(sent(OWNED), "sent=0018 -0000000390 +0000000320\n");
+        // Where the entries of one owner differ, or are missing, that owner's column alone does.
+        assert_eq!(with("msg=0:10,1:21"), "sent=0018 -0000000390 +0000000321\n");
+        assert_eq!(with("msg=0:10"), "sent=0018 -0000000390 +0000000300\n");
+        assert_eq!(with("msg=1:20"), "sent=0018 -0000000400 +0000000320\n");
+    }
+
+    #[test]
+    fn an_owner_that_is_neither_letter_is_refused() {
+        let refused: [(&str, u32); 6] = [
+            ("secret=0:300:C", BAD_OWNER),
+            ("secret=0:300:", BAD_OWNER),
+            ("secret=0:300:A:B", BAD_OWNER),
+            ("secret=0:300", BAD_NUMBER),
+            ("secret=0:x:C", BAD_NUMBER),
+            ("secret=8:300:C", BAD_NUMBER),
+        ];
+        for (line, number) in refused {
+            let sheet = String::from_utf8(OWNED.to_vec()).expect("letters");
+            let sheet = sheet.replace("secret=0:300:A", line);
+            let (mut output, mut job) = ([b'~'; 34], Job::default());
+            let wanted = [number, 3, 0, 0, 0, 0, 0];
+            assert_eq!(run(sheet.as_bytes(), &mut output).numbers(), wanted);
+            assert_eq!(output, [b'~'; 34]);
+            assert_eq!(read(sheet.as_bytes(), &mut job).numbers(), [number, 3]);
+            assert_eq!(job, Job::default());
+        }
     }
 
     /// Two messages, the second without its first entry.
@@ -919,7 +985,7 @@ mod tests {
         });
         before.letters.fill(b'~');
         let mut job = before.clone();
-        assert_eq!(read(b"sheet=2\n", &mut job).numbers(), [BAD_NUMBER, 1]);
+        assert_eq!(read(b"sheet=3\n", &mut job).numbers(), [BAD_NUMBER, 1]);
         assert_eq!(job, before);
         assert_eq!(read(SAVED, &mut job).numbers(), [ACCEPTED, 0]);
         assert_eq!(job.secrets[1..], before.secrets[1..]);
@@ -968,6 +1034,41 @@ mod tests {
             assert_eq!(output, vec![b'~'; SAVED.len() - 1]);
             assert_eq!(job, before);
         }
+    }
+
+    #[test]
+    fn a_record_of_form_2_has_owners_and_their_letters() {
+        let mut job = Job::default();
+        assert_eq!(read(OWNED, &mut job).numbers(), [ACCEPTED, 0]);
+        let owner = |place: usize, job: &Job| job.secrets[place].owner;
+        assert_eq!(
+            (job.form, owner(0, &job), owner(1, &job)),
+            (2, OWNER_A, OWNER_B)
+        );
+        assert_eq!(job.letters[..4], *b"LABL");
+        let mut output = vec![b'~'; OWNED.len()];
+        assert_eq!(
+            write(&job, &mut output).numbers(),
+            [WRITTEN, OWNED.len() as u32]
+        );
+        assert_eq!(output, OWNED);
+        let mut short = vec![b'~'; OWNED.len() - 1];
+        assert_eq!(write(&job, &mut short).numbers(), [NO_ROOM_FOR_SHEET, 0]);
+        type Change = fn(&mut Job);
+        let refused: [Change; 6] = [
+            |job| job.form = 1,
+            |job| job.form = 3,
+            |job| job.secrets[1].owner = 0,
+            |job| job.secrets[1].owner = 72,
+            |job| job.letters[0] = b'H',
+            |job| job.keys = 9,
+        ];
+        for change in refused {
+            let mut changed = job.clone();
+            change(&mut changed);
+            assert_eq!(write(&changed, &mut short).numbers(), [BAD_RECORD, 0]);
+        }
+        assert_eq!(short, vec![b'~'; OWNED.len() - 1]);
     }
 
     #[test]

@@ -2,7 +2,7 @@
  * The archive's boundary from C: memories of exactly the lengths that it is told, of every length
  * that matters, and records of the layout that the header says. Run it under valgrind, which then
  * sees each byte that is read or written beside them. What sheets, exports and programs with blocks
- * mean is not tried here: tests/differential does that.
+ * mean is tried here by a few examples only: tests/differential does that.
  *
  * Prints a line for each check that fails and, if all hold, one last line. Exit status 1: a check
  * has failed.

@@ -49,7 +49,7 @@ static void read_over(const char *name, const void *sheet, size_t sheet_len,
 }
 
 /* A sheet that is accepted: of the record, only what its counts cover is set, over other bytes that
- * are all the same and over the fullest record. */
+ * are all the same and over the fullest record of either form. */
 static void opens(const char *name, const char *sheet, void (*put)(struct pavebox_job *job))
 {
     static const int bytes[] = {0x5a, 0, 0xff, 1};
@@ -62,6 +62,10 @@ static void opens(const char *name, const char *sheet, void (*put)(struct pavebo
         read_over(name, sheet, strlen(sheet), &before, &after, 0, 0);
     }
     before = fullest(0x5a);
+    after = before;
+    put(&after);
+    read_over(name, sheet, strlen(sheet), &before, &after, 0, 0);
+    before = fullest_2(0x5a);
     after = before;
     put(&after);
     read_over(name, sheet, strlen(sheet), &before, &after, 0, 0);
@@ -123,30 +127,52 @@ static void put_words(struct pavebox_job *job)
     put_letters(job, "L");
 }
 
+/* Owners that are not in the order of their letters, and turns of them alone. */
+#define OWNERS \
+    "sheet=2\nkeys=8\nsecret=0:-2147483648:B\nsecret=3:0:A\nsecret=7:2147483647:B\ndo=stop\n" \
+    "msg=3:1\nturns=BAB\n"
+
+static void put_owners(struct pavebox_job *job)
+{
+    put_head_2(job, 8);
+    put_owned(job, 0, INT32_MIN, 66);
+    put_owned(job, 3, 0, 65);
+    put_owned(job, 7, INT32_MAX, 66);
+    put_command(job, BARE(14));
+    put_message(job);
+    put_entry(job, 3, 1);
+    put_letters(job, "BAB");
+}
+
 static void check_opened(void)
 {
     static char text[TEXT_BYTES];
-    const struct pavebox_job job = fullest(0);
+    struct pavebox_job job = fullest(0);
     spell(text, &job);
     opens("sheet A", SHEET_A, put_sheet_a);
     opens("the smallest sheet", SMALLEST, put_smallest);
     opens("messages", MESSAGES, put_messages);
     opens("each word", WORDS, put_words);
     opens("the fullest sheet", text, put_fullest);
+    job = fullest_2(0);
+    spell(text, &job);
+    opens("two owners", TWO_OWNERS, put_two_owners);
+    opens("owners in another order", OWNERS, put_owners);
+    opens("the fullest sheet of form 2", text, put_fullest_2);
 }
 
 /* A sheet that is cut off after each of its bytes: in the middle of a line it has no line feed at
  * the end, after a line it ends early. */
-static void check_sheet_lengths(void)
+static void check_sheet_lengths(const char *sheet)
 {
     uint32_t line = 1;
     size_t length;
-    for (length = 0; length < strlen(SHEET_A); length++) {
-        const int after_line = length > 0 && SHEET_A[length - 1] == '\n';
-        char name[32];
+    for (length = 0; length < strlen(sheet); length++) {
+        const int after_line = length > 0 && sheet[length - 1] == '\n';
+        char name[48];
         line += (uint32_t)after_line;
         snprintf(name, sizeof name, "the first %lu bytes", (unsigned long)length);
-        refuses(name, SHEET_A, length, after_line ? PAVEBOX_BAD_NAME : PAVEBOX_BAD_BYTE, line);
+        refuses(name, sheet, length, after_line ? PAVEBOX_BAD_NAME : PAVEBOX_BAD_BYTE, line);
     }
 }
 
@@ -161,7 +187,8 @@ static void check_refusals(void)
     refuses_text("3, a sheet behind a sheet", SHEET_A SHEET_A, 3, 11);
     refuses_text("3, no command", HEAD TAIL, 3, 4);
     refuses_text("3, a name out of its order", HEAD "do=stop\nsecret=1:1\n" TAIL, 3, 5);
-    refuses_text("4, form 2", "sheet=2\nkeys=1\ndo=stop\nturns=L\n", 4, 1);
+    refuses_text("4, form 3", "sheet=3\nkeys=1\ndo=stop\nturns=L\n", 4, 1);
+    refuses_text("4, form 0", "sheet=0\nkeys=1\ndo=stop\nturns=L\n", 4, 1);
     refuses_text("4, no key", "sheet=1\nkeys=0\ndo=stop\nturns=L\n", 4, 2);
     refuses_text("4, nine keys", "sheet=1\nkeys=9\ndo=stop\nturns=L\n", 4, 2);
     refuses_text("4, an owner", "sheet=1\nkeys=2\nsecret=1:300:A\ndo=stop\nturns=L\n", 4, 3);
@@ -179,22 +206,51 @@ static void check_refusals(void)
 #undef HEAD
 }
 
-/* One thing more than a sheet may have, and sheets that are longer than any that is accepted. */
-static void check_one_more(void)
+/* What form 2 refuses in a secret line and in its turns, and what it shares with form 1. */
+static void check_refusals_2(void)
 {
-    const size_t most = PAVEBOX_MOST_SHEET_BYTES;
+#define HEAD "sheet=2\nkeys=2\n"
+#define TAIL "do=stop\nturns=LAB\n"
+    refuses_text("46, another letter", HEAD "secret=1:300:C\n" TAIL, 46, 3);
+    refuses_text("46, no letter", HEAD "secret=1:300:\n" TAIL, 46, 3);
+    refuses_text("46, a small letter", HEAD "secret=0:1:B\nsecret=1:300:a\n" TAIL, 46, 4);
+    refuses_text("46, a third colon", HEAD "secret=1:300:A:B\n" TAIL, 46, 3);
+    refuses_text("46 at the end", HEAD "secret=1:300:AB\n", 46, 3);
+    refuses_text("4, a dummy before 46", HEAD "secret=1:x:C\n" TAIL, 4, 3);
+    refuses_text("4, a key before 46", HEAD "secret=2:300:C\n" TAIL, 4, 3);
+    refuses_text("4, no owner", HEAD "secret=1:300\n" TAIL, 4, 3);
+    refuses_text("4, no colon before 5", HEAD "secret=1:300:A\nsecret=0:4\n" TAIL, 4, 4);
+    refuses_text("5 before 46", HEAD "secret=1:300:A\nsecret=1:4:C\n" TAIL, 5, 4);
+    refuses_text("4, nine keys", "sheet=2\nkeys=9\n" TAIL, 4, 2);
+    refuses_text("4, a target", HEAD "do=jump 65\n" TAIL, 4, 3);
+    refuses_text("7, a target", HEAD "do=jump 3\n" TAIL, 7, 3);
+    refuses_text("9, H", HEAD "do=stop\nturns=LAH\n", 9, 4);
+    refuses_text("3, a line behind a sheet", TWO_OWNERS "\n", 3, 14);
+#undef TAIL
+#undef HEAD
+}
+
+/* One thing more than a sheet of either form may have. */
+static void check_one_more(struct pavebox_job (*full)(int byte))
+{
     static char text[TEXT_BYTES];
-    struct pavebox_job job = fullest('L');
-    uint8_t *feeds = memory(most + 1);
+    struct pavebox_job job = full('L');
     put_command(&job, BARE(PAVEBOX_WORD_STOP));
     spell(text, &job);
     refuses_text("8, a 65th command", text, 8, 75);
-    job = fullest('L');
+    job = full('L');
     spell(text, &job);
     strcpy(text + strlen(text) - 1, "L\n");
     refuses_text("8, a 1,025th letter", text, 8, 107);
     strcpy(strstr(text, "turns="), "msg=\nturns=L\n");
     refuses_text("8, a 33rd message", text, 8, 107);
+}
+
+/* Sheets that are longer than any that is accepted. */
+static void check_long_sheets(void)
+{
+    const size_t most = PAVEBOX_MOST_SHEET_BYTES;
+    uint8_t *feeds = memory(most + 1);
     memset(feeds, '\n', most + 1);
     refuses("3, 16,384 bytes", feeds, most, 3, 1);
     refuses("1, 16,385 bytes", feeds, most + 1, 1, 0);
@@ -232,7 +288,7 @@ static void check_as_run(const char *name, const char *sheet, size_t length)
 /* Sheets near one that is accepted: each byte of it is replaced, doubled and left out. */
 static void check_near_sheets(const char *sheet)
 {
-    static const char bytes[] = "\n 019-:,=LHdsx\177";
+    static const char bytes[] = "\n 0129-:,=LHABdsx\177";
     const size_t length = strlen(sheet);
     static char near[TEXT_BYTES];
     size_t place, byte;
@@ -292,14 +348,20 @@ void check_reading(void)
 {
     begin("pavebox_read");
     check_opened();
-    check_sheet_lengths();
+    check_sheet_lengths(SHEET_A);
+    check_sheet_lengths(TWO_OWNERS);
     check_refusals();
+    check_refusals_2();
     check_bytes(&entry, PAVEBOX_BAD_NAME);
-    check_one_more();
+    check_one_more(fullest);
+    check_one_more(fullest_2);
+    check_long_sheets();
     check_near_sheets(SHEET_A);
     check_near_sheets(SMALLEST);
     check_near_sheets(MESSAGES);
     check_near_sheets(WORDS);
+    check_near_sheets(TWO_OWNERS);
+    check_near_sheets(OWNERS);
     check_read_guards();
     check_nulls_and_answers();
 }

@@ -16,12 +16,23 @@ void put_head(struct pavebox_job *job, uint32_t keys)
     job->letter_count = 0;
 }
 
+void put_head_2(struct pavebox_job *job, uint32_t keys)
+{
+    put_head(job, keys);
+    job->form = 2;
+}
+
 void put_secret(struct pavebox_job *job, uint32_t key, int32_t dummy)
+{
+    put_owned(job, key, dummy, 0);
+}
+
+void put_owned(struct pavebox_job *job, uint32_t key, int32_t dummy, uint32_t owner)
 {
     struct pavebox_secret *secret = &job->secrets[job->secret_count++];
     secret->key = key;
     secret->dummy = dummy;
-    secret->owner = 0;
+    secret->owner = owner;
 }
 
 void put_command(struct pavebox_job *job, struct pavebox_command command)
@@ -70,12 +81,29 @@ void put_smallest(struct pavebox_job *job)
     put_letters(job, "L");
 }
 
-void put_fullest(struct pavebox_job *job)
+void put_two_owners(struct pavebox_job *job)
+{
+    put_head_2(job, 3);
+    put_owned(job, 1, 300, 65);
+    put_owned(job, 2, 400, 66);
+    put_command(job, BARE(12));
+    put_command(job, (struct pavebox_command){5, 0, 0, 1, 0, 0});
+    put_command(job, (struct pavebox_command){5, 1, 0, 2, 0, 0});
+    put_command(job, (struct pavebox_command){1, 0, 1, 0, 0, 0});
+    put_command(job, (struct pavebox_command){7, 0, 0, 1, 0, 0});
+    put_command(job, (struct pavebox_command){7, 0, 0, 2, 0, 0});
+    put_command(job, BARE(13));
+    put_message(job);
+    put_entry(job, 0, 7);
+    put_entry(job, 1, 10);
+    put_entry(job, 2, 20);
+    put_letters(job, "LABLABLABLABLABLABLAB");
+}
+
+/* The commands and messages of the fullest record of either form. */
+static void put_full_program(struct pavebox_job *job)
 {
     uint32_t place, key;
-    put_head(job, 8);
-    for (key = 0; key < 8; key++)
-        put_secret(job, key, INT32_MIN);
     for (place = 0; place < 64; place++)
         put_command(job, (struct pavebox_command){0, 7, 0, 0, 0, INT32_MIN});
     for (place = 0; place < 32; place++) {
@@ -83,32 +111,62 @@ void put_fullest(struct pavebox_job *job)
         for (key = 0; key < 8; key++)
             put_entry(job, key, INT32_MIN);
     }
+}
+
+void put_fullest(struct pavebox_job *job)
+{
+    uint32_t place, key;
+    put_head(job, 8);
+    for (key = 0; key < 8; key++)
+        put_secret(job, key, INT32_MIN);
+    put_full_program(job);
     for (place = 0; place < 512; place++)
         put_letters(job, "LH");
 }
 
-struct pavebox_job sheet_a(int byte)
+void put_fullest_2(struct pavebox_job *job)
+{
+    uint32_t place, key;
+    put_head_2(job, 8);
+    for (key = 0; key < 8; key++)
+        put_owned(job, key, INT32_MIN, 65 + key % 2);
+    put_full_program(job);
+    for (place = 0; place < 256; place++)
+        put_letters(job, "LABA");
+}
+
+/* What one of these puts, in memory of this byte. */
+static struct pavebox_job filled(int byte, void (*put)(struct pavebox_job *job))
 {
     struct pavebox_job job;
     memset(&job, byte, sizeof job);
-    put_sheet_a(&job);
+    put(&job);
     return job;
+}
+
+struct pavebox_job sheet_a(int byte)
+{
+    return filled(byte, put_sheet_a);
 }
 
 struct pavebox_job smallest(int byte)
 {
-    struct pavebox_job job;
-    memset(&job, byte, sizeof job);
-    put_smallest(&job);
-    return job;
+    return filled(byte, put_smallest);
+}
+
+struct pavebox_job two_owners(int byte)
+{
+    return filled(byte, put_two_owners);
 }
 
 struct pavebox_job fullest(int byte)
 {
-    struct pavebox_job job;
-    memset(&job, byte, sizeof job);
-    put_fullest(&job);
-    return job;
+    return filled(byte, put_fullest);
+}
+
+struct pavebox_job fullest_2(int byte)
+{
+    return filled(byte, put_fullest_2);
 }
 
 /* The words by their numbers, in the order of document 01's table. */
@@ -167,6 +225,15 @@ static char *spell_message(char *next, const struct pavebox_message *message)
     return next + sprintf(next, "\n");
 }
 
+/* A secret's line, with its owner in form 2. */
+static char *spell_secret(char *next, uint32_t form, const struct pavebox_secret *secret)
+{
+    next += sprintf(next, "secret=%lu:%ld", (unsigned long)secret->key, (long)secret->dummy);
+    if (form == 2)
+        next += sprintf(next, ":%c", (int)secret->owner);
+    return next + sprintf(next, "\n");
+}
+
 char *spell(char *text, const struct pavebox_job *job)
 {
     char *next = text;
@@ -174,8 +241,7 @@ char *spell(char *text, const struct pavebox_job *job)
     next += sprintf(next, "sheet=%lu\nkeys=%lu\n", (unsigned long)job->form,
                     (unsigned long)job->keys);
     for (place = 0; place < job->secret_count; place++)
-        next += sprintf(next, "secret=%lu:%ld\n", (unsigned long)job->secrets[place].key,
-                        (long)job->secrets[place].dummy);
+        next = spell_secret(next, job->form, &job->secrets[place]);
     for (place = 0; place < job->command_count; place++)
         next = spell_command(next, &job->commands[place]);
     for (place = 0; place < job->message_count; place++)
@@ -247,10 +313,12 @@ static void check_words(void)
 
 static void check_constants(void)
 {
-    check(PAVEBOX_BAD_RECORD == 54 && PAVEBOX_NO_ROOM_FOR_SHEET == 55, "refusals", "numbers");
+    check(PAVEBOX_BAD_RECORD == 54 && PAVEBOX_NO_ROOM_FOR_SHEET == 55 && PAVEBOX_BAD_OWNER == 46,
+          "refusals", "numbers");
+    check(PAVEBOX_OWNER_A == 65 && PAVEBOX_OWNER_B == 66, "owners", "numbers");
     check(PAVEBOX_WRITTEN == 0 && PAVEBOX_ACCEPTED == 0, "success", "number");
     check(PAVEBOX_WRITE_ANSWER_BYTES == 8 && PAVEBOX_JOB_ANSWER_BYTES == 8, "answers", "bytes");
-    check(PAVEBOX_MOST_WRITE_OUTPUT_BYTES == 6270, "PAVEBOX_MOST_WRITE_OUTPUT_BYTES", "bytes");
+    check(PAVEBOX_MOST_WRITE_OUTPUT_BYTES == 6286, "PAVEBOX_MOST_WRITE_OUTPUT_BYTES", "bytes");
 }
 
 /* Save, open, save again: the same record where it is opened over the same memory, the same bytes
@@ -323,6 +391,28 @@ static void check_rounds(void)
     check_round("each word", &job);
 }
 
+/* The same of form 2, with each owner at each secret, and with letters of one execution alone. */
+static void check_rounds_2(void)
+{
+    struct pavebox_job job = two_owners(0x5a);
+    check_round("two owners", &job);
+    job.secrets[0].owner = 66;
+    check_round("owner B alone", &job);
+    job.secrets[0].dummy = -12;
+    job.secrets[1].owner = 65;
+    check_round("owners the other way round", &job);
+    job.message_count = 0;
+    job.secret_count = 0;
+    check_round("form 2 without secret and message", &job);
+    memset(job.letters, 'B', job.letter_count);
+    check_round("turns of B alone", &job);
+    job = fullest_2(0x5a);
+    check_round("the fullest record of form 2", &job);
+    job = smallest(0x5a);
+    job.form = 2;
+    check_round("the smallest record of form 2", &job);
+}
+
 void check_record(void)
 {
     begin("the record");
@@ -330,4 +420,5 @@ void check_record(void)
     check_words();
     check_constants();
     check_rounds();
+    check_rounds_2();
 }

@@ -74,28 +74,32 @@ static void check_beyond_counts(void)
         write_job("sheet A", &job, LENT, saved(SHEET_A));
         job = smallest(byte);
         write_job("the smallest record", &job, LENT, saved(SMALLEST));
+        job = two_owners(byte);
+        write_job("two owners", &job, LENT, saved(TWO_OWNERS));
     }
 }
 
 /* Output memories of every length, up to some that are longer than the sheet. */
-static void check_output_lengths(void)
+static void check_output_lengths(struct pavebox_job job, const char *sheet)
 {
-    const struct pavebox_job job = sheet_a(0x5a);
     size_t lent;
-    for (lent = 0; lent <= strlen(SHEET_A) + 3; lent++) {
+    for (lent = 0; lent <= strlen(sheet) + 3; lent++) {
         char name[32];
         snprintf(name, sizeof name, "%lu bytes lent", (unsigned long)lent);
-        write_job(name, &job, lent, lent < strlen(SHEET_A) ? NO_ROOM : saved(SHEET_A));
+        write_job(name, &job, lent, lent < strlen(sheet) ? NO_ROOM : saved(sheet));
     }
 }
 
-/* Changes of sheet A's record, each alone. No memory is lent, so that 55 says that it passes. */
-#define CHANGED(change, number) \
+/* Changes of a record, of sheet A's or of that of two owners, each alone. No memory is lent, so that
+ * 55 says that it passes. */
+#define CHANGED_OF(record, change, number) \
     do { \
-        struct pavebox_job r = sheet_a(0); \
+        struct pavebox_job r = record; \
         change; \
         write_job(#change, &r, 0, REFUSED(number, 0)); \
     } while (0)
+#define CHANGED(change, number) CHANGED_OF(sheet_a(0), change, number)
+#define OWNED(change, number) CHANGED_OF(two_owners(0), change, number)
 
 static void check_changes(void)
 {
@@ -121,21 +125,55 @@ static void check_changes(void)
     CHANGED((r.commands[4].word = 11, r.commands[4].t = 5, r.command_count = 6), 55);
 }
 
-/* There is no form 2 as yet, whether or not the rest is as it would be there. */
-static void check_other_forms(void)
+static void check_owned_changes(void)
+{
+    OWNED(r.secrets[0].owner = 66, 55);
+    OWNED(r.secrets[1].owner = 65, 55);
+    OWNED(r.secrets[0].owner = 0, 54);
+    OWNED(r.secrets[1].owner = 0, 54);
+    OWNED(r.secrets[0].owner = 67, 54);
+    OWNED(r.secrets[1].owner = 72, 54);
+    OWNED(r.secrets[1].owner = 76, 54);
+    OWNED(r.secrets[1].owner = 98, 54);
+    OWNED(r.secrets[2].owner = 0, 55);
+    OWNED(r.letters[20] = 'A', 55);
+    OWNED(r.letters[20] = 'L', 55);
+    OWNED(r.letters[20] = 'H', 54);
+    OWNED(r.letters[21] = 'H', 55);
+    OWNED(r.letter_count = 0, 54);
+    OWNED(r.keys = 2, 54);
+    OWNED(r.keys = 8, 55);
+    OWNED(r.keys = 9, 54);
+    OWNED(r.keys = 16, 54);
+    OWNED(r.secrets[1].key = 1, 54);
+    OWNED((r.commands[6].word = 11, r.commands[6].t = 7), 55);
+    OWNED((r.commands[6].word = 11, r.commands[6].t = 8), 54);
+}
+
+/* A record of one form with owners and letters of the other. Sheet A's has one secret. */
+static void check_forms(void)
 {
     struct pavebox_job job = sheet_a(0x5a);
     job.form = 2;
-    refuses("form 2", &job);
-    job.secrets[0].owner = 'A';
+    refuses("form 2 without owner", &job);
+    job.secrets[0].owner = PAVEBOX_OWNER_A;
+    refuses("form 2 with letters of form 1", &job);
     memcpy(job.letters, "LALALALALA", 10);
-    refuses("form 2 with owner A", &job);
-    job.secrets[0].owner = 'B';
+    saves("form 2 with owner A", &job);
+    job.secrets[0].owner = PAVEBOX_OWNER_B;
     memcpy(job.letters, "LBLBLALALA", 10);
-    refuses("form 2 with owner B", &job);
-    job.form = 1;
+    saves("form 2 with owner B", &job);
     job.secrets[0].owner = 0;
+    refuses("form 2 with its letters, without owner", &job);
+    job.form = 1;
     refuses("form 1 with letters of form 2", &job);
+    memcpy(job.letters, "LHLHLHLHLH", 10);
+    saves("form 1 again", &job);
+    job.secrets[0].owner = PAVEBOX_OWNER_A;
+    refuses("form 1 with owner A", &job);
+    job = two_owners(0x5a);
+    for (job.form = 0; job.form < 5; job.form++)
+        decides("two owners in another form", &job, job.form == 2);
 }
 
 /* The numbers that sheet A's record has in what its counts cover, but those that may be any. Each
@@ -151,11 +189,12 @@ static void check_other_forms(void)
     NUMBER(commands[place].word, 5, 8), NUMBER(commands[place].v, 0, 7), \
         NUMBER(commands[place].w, 0, 0), NUMBER(commands[place].k, 0, 1), \
         NUMBER(commands[place].t, 0, 0), NUMBER(commands[place].n, 0, 0)
-static const struct number {
+struct number {
     const char *name;
     size_t place;
     uint32_t from, to;
-} numbers[] = {
+};
+static const struct number numbers[] = {
     NUMBER(form, 1, 1), NUMBER(keys, 2, 8),
     NUMBER(secret_count, 0, 1), NUMBER(secrets[0].key, 0, 1), NUMBER(secrets[0].owner, 0, 0),
     NUMBER(command_count, 1, 5), NUMBERS_OF_BARE(0), NUMBERS_OF_KEYED(1), NUMBERS_OF_KEYED(2),
@@ -165,44 +204,55 @@ static const struct number {
     NUMBER(letter_count, 1, 10),
 };
 
-static void check_number(const struct number *number, uint32_t value)
+/* The same of the record of two owners, for what its form or its secrets decide. */
+static const struct number owned_numbers[] = {
+    NUMBER(form, 2, 2), NUMBER(keys, 3, 8), NUMBER(secret_count, 0, 2),
+    NUMBER(secrets[0].key, 0, 1), NUMBER(secrets[1].key, 2, 2),
+    NUMBER(secrets[0].owner, 65, 66), NUMBER(secrets[1].owner, 65, 66),
+    NUMBER(command_count, 1, 7), NUMBERS_OF_BARE(0), NUMBERS_OF_BARE(6),
+    NUMBER(message_count, 0, 1), NUMBER(messages[0].entry_count, 0, 3),
+    NUMBER(letter_count, 1, 21),
+};
+
+static void check_number(struct pavebox_job job, const struct number *number, uint32_t value)
 {
-    struct pavebox_job job = sheet_a(0x5a);
     memcpy((uint8_t *)&job + number->place, &value, sizeof value);
     decides(number->name, &job, number->from <= value && value <= number->to);
 }
 
 /* Each of these numbers pushed out of its limits, by little and by much; where only its low bytes
  * are what they may be; and all small numbers. */
-static void check_numbers(void)
+static void check_numbers(struct pavebox_job job, const struct number *number, size_t count)
 {
     static const uint32_t values[] = {
-        31, 32, 33, 63, 64, 65, 66, 127, 128, 255, 256, 257, 1023, 1024, 1025, 65535, 65536,
-        0x7fffffffu, 0x80000000u, 0xaaaaaaabu, 0xfffffff8u, 0xfffffffeu, 0xffffffffu};
-    const struct pavebox_job job = sheet_a(0x5a);
-    size_t number, place;
-    for (number = 0; number < COUNT(numbers); number++) {
+        31, 32, 33, 63, 64, 65, 66, 67, 72, 76, 97, 127, 128, 255, 256, 257, 1023, 1024, 1025,
+        65535, 65536, 0x7fffffffu, 0x80000000u, 0xaaaaaaabu, 0xfffffff8u, 0xfffffffeu,
+        0xffffffffu};
+    size_t place;
+    for (; count > 0; count--, number++) {
         uint32_t value, old;
-        memcpy(&old, (const uint8_t *)&job + numbers[number].place, sizeof old);
+        memcpy(&old, (const uint8_t *)&job + number->place, sizeof old);
         for (value = 0; value <= 18; value++)
-            check_number(&numbers[number], value);
+            check_number(job, number, value);
         for (place = 0; place < COUNT(values); place++)
-            check_number(&numbers[number], values[place]);
+            check_number(job, number, values[place]);
         for (place = 8; place < 32; place++)
-            check_number(&numbers[number], old + ((uint32_t)1 << place));
+            check_number(job, number, old + ((uint32_t)1 << place));
     }
 }
 
-/* Each letter of sheet A as each byte. */
-static void check_letters(void)
+/* Each letter of a record as each byte. Those of its form may stand there. */
+static void check_letters(struct pavebox_job job, const char *letters)
 {
     unsigned place, byte;
-    for (place = 0; place < 10; place++)
+    for (place = 0; place < job.letter_count; place++) {
+        const uint8_t old = job.letters[place];
         for (byte = 0; byte < 256; byte++) {
-            struct pavebox_job job = sheet_a('L');
             job.letters[place] = (uint8_t)byte;
-            decides("a letter", &job, byte == 'L' || byte == 'H');
+            decides("a letter", &job, byte > 0 && strchr(letters, (int)byte) != NULL);
         }
+        job.letters[place] = old;
+    }
 }
 
 /* Dummies, values and the n of set may be any, and have no more digits than they need. */
@@ -332,59 +382,61 @@ static void check_key_order(void)
     }
 }
 
-static void check_fullest(void)
+/* The fullest record of either form. That of form 2 takes all that any record takes. */
+static void check_fullest(struct pavebox_job (*full)(int byte), size_t wanted_length)
 {
     static char text[TEXT_BYTES];
-    struct pavebox_job job = fullest(0x5a);
+    struct pavebox_job job = full(0x5a);
     const size_t length = (size_t)(spell(text, &job) - text);
-    check(length == 6270, "the fullest record", "length");
-    write_job("the fullest record", &job, LENT, saved(text));
+    check(length == wanted_length, "the fullest record", "length");
+    write_job("the fullest record", &job, length, saved(text));
+    write_job("the fullest record and as much as any takes", &job, LENT, saved(text));
     write_job("the fullest record and much memory", &job, LENT + 1000, saved(text));
-    write_job("the fullest record and a byte too little", &job, LENT - 1, NO_ROOM);
+    write_job("the fullest record and a byte too little", &job, length - 1, NO_ROOM);
     write_job("the fullest record and no memory", &job, 0, NO_ROOM);
-    job = fullest(0);
+    job = full(0);
     write_job("the fullest record among zeros", &job, LENT, saved(text));
-    job = fullest(0xff);
+    job = full(0xff);
     write_job("the fullest record among ones", &job, LENT, saved(text));
 }
 
 /* One thing more than the fullest record has, of each kind: there are places for most of them. */
-static void check_one_more(void)
+static void check_one_more(struct pavebox_job (*full)(int byte))
 {
-    struct pavebox_job job = fullest(0);
+    struct pavebox_job job = full(0);
     job.keys = 9;
     refuses("nine keys", &job);
-    put_secret(&job, 8, 0);
+    put_owned(&job, 8, 0, job.secrets[0].owner);
     refuses("nine keys and secrets", &job);
     job.keys = 8;
     refuses("nine secrets", &job);
-    job = fullest(0);
+    job = full(0);
     put_command(&job, BARE(PAVEBOX_WORD_STOP));
     refuses("65 commands", &job);
     while (job.command_count < 256)
         put_command(&job, BARE(PAVEBOX_WORD_STOP));
     refuses("256 commands", &job);
-    job = fullest(0);
+    job = full(0);
     put_entry(&job, 8, 0);
     refuses("nine entries", &job);
-    job = fullest('L');
+    job = full('L');
     job.letter_count = 1025;
     refuses("1,025 letters", &job);
 }
 
-/* Each place of the fullest record alone, so that none is left untested. */
-static void check_each_place(void)
+/* Each place of the fullest record alone, so that none is left untested. The owner and the letter are
+ * of the other form. */
+static void check_each_place(const struct pavebox_job whole, uint32_t owner, uint8_t letter)
 {
-    const struct pavebox_job whole = fullest(0x5a);
     struct pavebox_job job = whole;
     unsigned place, key;
     for (key = 0; key < 8; key++) {
         job.secrets[key].key++;
         refuses("a key of a secret", &job);
         job.secrets[key].key = whole.secrets[key].key;
-        job.secrets[key].owner = 'B';
+        job.secrets[key].owner = owner;
         refuses("an owner of a secret", &job);
-        job.secrets[key].owner = 0;
+        job.secrets[key].owner = whole.secrets[key].owner;
     }
     for (place = 0; place < 64; place++) {
         job.commands[place].word = 15;
@@ -404,7 +456,7 @@ static void check_each_place(void)
         }
     }
     for (place = 0; place < 1024; place++) {
-        job.letters[place] = 'A';
+        job.letters[place] = letter;
         write_job("a letter of 1,024", &job, LENT, BAD);
         job.letters[place] = whole.letters[place];
     }
@@ -412,7 +464,7 @@ static void check_each_place(void)
 }
 
 /* Counts above the places, up to the greatest number: no place is looked at beyond the record. */
-static void check_counts(void)
+static void check_counts(struct pavebox_job (*full)(int byte))
 {
     static const size_t counts[] = {
         offsetof(struct pavebox_job, keys), offsetof(struct pavebox_job, secret_count),
@@ -426,13 +478,18 @@ static void check_counts(void)
     size_t count, place;
     for (count = 0; count < COUNT(counts); count++)
         for (place = 0; place < COUNT(values); place++) {
-            struct pavebox_job job = fullest(0);
+            struct pavebox_job job = full(0);
             memcpy((uint8_t *)&job + counts[count], &values[place], 4);
             refuses("a count of the fullest record", &job);
         }
-    for (count = 0; count < 256; count++) {
+}
+
+static void check_same_bytes(void)
+{
+    int byte;
+    for (byte = 0; byte < 256; byte++) {
         struct pavebox_job job;
-        memset(&job, (int)count, sizeof job);
+        memset(&job, byte, sizeof job);
         refuses("the same byte everywhere", &job);
     }
 }
@@ -454,9 +511,8 @@ static void check_record_guards(void)
     free(before);
 }
 
-static void check_nulls_and_answers(void)
+static void check_nulls_and_answers(const struct pavebox_job good)
 {
-    const struct pavebox_job good = smallest(0x5a);
     struct pavebox_job bad = good;
     uint8_t answer[8];
     bad.form = 0;
@@ -474,22 +530,33 @@ static void check_nulls_and_answers(void)
 
 void check_writing(void)
 {
-    const struct pavebox_job job = sheet_a(0x5a);
+    const struct pavebox_job job = sheet_a(0x5a), owned = two_owners(0x5a);
     begin("pavebox_write");
     check_beyond_counts();
-    check_output_lengths();
+    check_output_lengths(job, SHEET_A);
+    check_output_lengths(owned, TWO_OWNERS);
     check_changes();
-    check_other_forms();
-    check_numbers();
-    check_letters();
+    check_owned_changes();
+    check_forms();
+    check_numbers(job, numbers, COUNT(numbers));
+    check_numbers(owned, owned_numbers, COUNT(owned_numbers));
+    check_letters(sheet_a('L'), "LH");
+    check_letters(two_owners('L'), "LAB");
     check_any_numbers();
     check_words();
     check_key_order();
-    check_fullest();
-    check_one_more();
-    check_each_place();
-    check_counts();
+    check_fullest(fullest, 6270);
+    check_fullest(fullest_2, 6286);
+    check_one_more(fullest);
+    check_one_more(fullest_2);
+    check_each_place(fullest(0x5a), PAVEBOX_OWNER_B, 'A');
+    check_each_place(fullest_2(0x5a), 0, 'H');
+    check_counts(fullest);
+    check_counts(fullest_2);
+    check_same_bytes();
     check_guards(&entry, &job, sizeof job, 130, saved(SHEET_A));
+    check_guards(&entry, &owned, sizeof owned, 180, saved(TWO_OWNERS));
     check_record_guards();
-    check_nulls_and_answers();
+    check_nulls_and_answers(smallest(0x5a));
+    check_nulls_and_answers(owned);
 }
