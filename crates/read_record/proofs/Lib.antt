@@ -1,4 +1,3 @@
 -- The laws of the readers of a record.
 mod Laws
-mod Words
 mod Whole

@@ -10,31 +10,29 @@ use model::Form;
 use model::KEY_CAPACITY;
 use model::Key;
 use model::KeySlot;
-use model::LAST_VARIABLE;
 use model::MESSAGE_CAPACITY;
 use model::MessageLine;
-use model::Owner;
 use model::StoredJob;
-use model::WORDS;
 use model_record::COMMAND_PLACES;
 use model_record::CommandRecord;
 use model_record::EntryRecord;
 use model_record::JobRecord;
 use model_record::KEY_PLACES;
-use model_record::LETTER_PLACES;
 use model_record::MESSAGE_PLACES;
 use model_record::MessageRecord;
-use model_record::OWNER_A;
-use model_record::OWNER_B;
 use model_record::SecretRecord;
-use pack_command::op_at;
+use read_fields::command_fits;
+use read_fields::command_of;
+use read_fields::letters_fit;
+use read_fields::owner_fits;
+use read_fields::owner_of;
 ghost use mathlib.Core.Path.{_≡_};
-ghost use mathlib.Core.Bool.{false, cond};
+ghost use mathlib.Core.Bool.{false};
 ghost use Prim.Native.Nat.{_≤_};
 ghost use lib.ListN.{take, length};
-ghost use Rattle.model.specs.{Stored.keyCapacity, Stored.commandCapacity, Stored.messageCapacity, Stored.letterCapacity, Stored.nothingStored};
-ghost use Rattle.model_record.specs.Record.{all, ownerFits, ownerOf, commandFits, letterFits, countsFit, commandOf};
-ghost use Rattle.read_record.specs.Read.{LimitsAt, Narrow, SecretsTaken, CommandsTaken, EntriesTaken, MessagesTaken, Takes};
+ghost use Rattle.model.specs.{Stored.keyCapacity, Stored.commandCapacity, Stored.messageCapacity, Stored.nothingStored};
+ghost use Rattle.model_record.specs.Record.{countsFit};
+ghost use Rattle.read_record.specs.Read.{SecretsTaken, CommandsTaken, EntriesTaken, MessagesTaken, Takes};
 
 // Whether what was looked at is as it must be, and what it says then.
 struct Keys {
@@ -63,25 +61,6 @@ pub struct Taken {
     pub job: StoredJob,
 }
 
-// Where owners are named, `A` or `B`; else 0.
-fn owner_fits(owner: u32, owners: bool) -> bool
-    ensures { λ r. ⌜ r ≡ ownerFits owners owner ⌝ }
-{
-    if owners {
-        return (owner == OWNER_A) | (owner == OWNER_B);
-    }
-    owner == 0
-}
-
-fn owner_of(owner: u32) -> Owner
-    ensures { λ r. ⌜ r ≡ ownerOf owner ⌝ }
-{
-    if owner == OWNER_B {
-        return Owner::B;
-    }
-    Owner::A
-}
-
 fn secrets_of(secrets: [SecretRecord; KEY_PLACES], count: usize, keys: usize, owners: bool) -> Keys
     requires { ⌜ (count ≤ keys) × (keys ≤ keyCapacity) ⌝ }
     ensures { λ r. ⌜ SecretsTaken owners keys (take count secrets) r ⌝ }
@@ -106,66 +85,6 @@ fn secrets_of(secrets: [SecretRecord; KEY_PLACES], count: usize, keys: usize, ow
         i += 1;
     }
     Keys { fit: true, slots }
-}
-
-// The most that each operand of a word may be, and whether the word has a number: an operand that it lacks is 0.
-struct Limits {
-    pub v: u32,
-    pub w: u32,
-    pub k: u32,
-    pub t: u32,
-    pub n: bool,
-}
-
-fn limit(has: bool, most: u32) -> u32
-    ensures { λ r. ⌜ r ≡ cond has most 0 ⌝ }
-{
-    if has { most } else { 0 }
-}
-
-// By the places of the words in the table: set 0, add 1 to div 4, read 5, has 6, put 7, drop 8, ifneg 9, ifzero 10, jump 11.
-fn limits_at(word: u32, last: u32, count: u32) -> Limits
-    ensures { λ r. ⌜ LimitsAt word last count r ⌝ }
-{
-    Limits {
-        v: limit(
-            (word < 8) | (word == 9) | (word == 10),
-            LAST_VARIABLE as u32,
-        ),
-        w: limit((0 < word) & (word < 5), LAST_VARIABLE as u32),
-        k: limit((4 < word) & (word < 9), last),
-        t: limit((8 < word) & (word < 12), count),
-        n: word == 0,
-    }
-}
-
-fn command_fits(c: CommandRecord, keys: u32, count: u32) -> bool
-    requires { ⌜ 1 ≤ keys ⌝ }
-    ensures { λ r. ⌜ r ≡ commandFits keys count c ⌝ }
-{
-    let word = c.word;
-    let most = limits_at(word, keys - 1, count);
-    (word < WORDS)
-        & (c.v <= most.v)
-        & (c.w <= most.w)
-        & (c.k <= most.k)
-        & (c.t <= most.t)
-        & (most.n | (c.n == 0))
-}
-
-fn command_of(c: CommandRecord) -> Command
-    requires { ⌜ Narrow c ⌝ }
-    ensures { λ r. ⌜ r ≡ commandOf c ⌝ }
-{
-    let op = op_at(c.word as u64);
-    Command {
-        op,
-        v: c.v as u8,
-        w: c.w as u8,
-        k: c.k as u8,
-        t: c.t,
-        n: c.n,
-    }
 }
 
 fn commands_of(commands: [CommandRecord; COMMAND_PLACES], count: usize, keys: u32) -> Commands
@@ -243,22 +162,6 @@ fn messages_of(messages: [MessageRecord; MESSAGE_PLACES], count: usize, keys: us
         fit: true,
         messages: taken,
     }
-}
-
-// No letter decides what is done next, so that the compiler tests many in one step.
-fn letters_fit(letters: [u8; LETTER_PLACES], count: usize, form: Form) -> bool
-    requires { ⌜ count ≤ letterCapacity ⌝ }
-    ensures { λ r. ⌜ (r ≡ all (letterFits form) (take count letters)) × (count ≤ length letters) ⌝ }
-{
-    let third = form.third();
-    let mut fit = true;
-    let mut i: usize = 0;
-    while i < count {
-        let b = letters[i];
-        fit = fit & ((b == form.low) | (b == form.high) | (b == third));
-        i += 1;
-    }
-    fit
 }
 
 fn counts_fit(r: JobRecord) -> bool

@@ -1,9 +1,9 @@
 -- The tests one after the other, by the limits of the word's operands.
 use borrow.Author.Needs.{needs}
 use mir.{Syntax.w32, Val.SFits}
-use Rattle.read_record.proofs.Words.{command-test}
-use Rattle.read_record.proofs.command_fits.Statement.{statement}
-use Rattle.read_record.proofs.command_fits.Tie as tie
+use Rattle.read_fields.proofs.Words.{command-test}
+use Rattle.read_fields.proofs.command_fits.Statement.{statement}
+use Rattle.read_fields.proofs.command_fits.Tie as tie
 
 -- the number is one of 32 bits
 number : (c : tie.Start) → SFits w32 (c .args .c .n)

@@ -5,8 +5,8 @@ use mir.{Syntax.w32, ValLaws.toZ-ofZ}
 use Rattle.model.specs.Accepted.{rowAt}
 use Rattle.model_record.specs.Record.{commandOf}
 use Rattle.model_record.proofs.Commands.{word-place}
-use Rattle.read_record.proofs.command_of.Statement.{statement}
-use Rattle.read_record.proofs.command_of.Tie as tie
+use Rattle.read_fields.proofs.command_of.Statement.{statement}
+use Rattle.read_fields.proofs.command_of.Tie as tie
 
 returns : tie.Need-returns
 unfolding commandOf

@@ -1,9 +1,9 @@
 -- Each operand's limit by the word's place.
 use borrow.Author.Needs.{needs}
 use Rattle.model.specs.declared.Operand.the-variants.{InV, InW, InK, InT, InN}
-use Rattle.read_record.proofs.Words.{has-at, limit-at}
-use Rattle.read_record.proofs.limits_at.Statement.{statement}
-use Rattle.read_record.proofs.limits_at.Tie as tie
+use Rattle.read_fields.proofs.Words.{has-at, limit-at}
+use Rattle.read_fields.proofs.limits_at.Statement.{statement}
+use Rattle.read_fields.proofs.limits_at.Tie as tie
 
 returns : tie.Need-returns
 returns c =

@@ -15,9 +15,9 @@ use Rattle.model_record.specs.Record.{limitOf, inRange, commandFits, commandOf}
 use Rattle.model_record.specs.declared.CommandRecord.{CommandRecord}
 use Rattle.model_record.proofs.Commands.{command-fitting}
 use Rattle.model_text.proofs.TextLaws.{and-both}
-use Rattle.read_record.specs.Read.{LimitsAt, Narrow}
-use Rattle.read_record.specs.declared.Limits.{Limits}
-use Rattle.read_record.proofs.Laws.{in-range}
+use Rattle.read_fields.specs.Fields.{LimitsAt, Narrow}
+use Rattle.read_fields.specs.declared.Limits.{Limits}
+use Rattle.read_fields.proofs.Laws.{in-range}
 
 -- ---- A test of every row and its place, which antt computes
 

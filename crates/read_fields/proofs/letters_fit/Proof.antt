@@ -6,9 +6,9 @@ use borrow.Author.Needs.{needs}
 use lib.ListN.{length, take}
 use Rattle.model.specs.Form.{thirdOf}
 use Rattle.model_record.specs.Record.{letterFits}
-use Rattle.read_record.proofs.Laws.{Told, left-some, left-none, told-more, told-end, letter-among}
-use Rattle.read_record.proofs.letters_fit.Statement.{statement}
-use Rattle.read_record.proofs.letters_fit.Tie as tie
+use Rattle.read_fields.proofs.Laws.{Told, left-some, left-none, told-more, told-end, letter-among}
+use Rattle.read_fields.proofs.letters_fit.Statement.{statement}
+use Rattle.read_fields.proofs.letters_fit.Tie as tie
 
 abbrev Inv-loop : tie.InvT-loop
 Inv-loop count form letters third fit₀ i₀ fit i = Told (letterFits form) (take count letters) i fit × (i ≤ count) × (count ≤ length letters) × (third ≡ thirdOf form)
