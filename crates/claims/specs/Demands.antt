@@ -33,8 +33,9 @@ pub record Demand2 (sheet output answer : List ℕ) (returned : ℕ) (output′ 
   pub first : returned ≡ getD (numbersOf (runSheet sheet output .answer)) 0 0
   pub memory : output′ ≡ runSheet sheet output .memory
 
--- Demand 3, of one owner and of both. Two accepted sheets that differ in entries of their keys only give the same return and answer memory, and the same output byte
--- at every place outside their columns: where they are one owner's, in the other owner's columns as well.
+-- Demand 3, of one owner and of both. Two accepted sheets that differ in entries of their keys only give the same
+-- return and answer memory, and the same output byte at every place outside their columns: where they are one
+-- owner's, in the other owner's columns as well.
 pub record Demand3 (w : Whose) (s t : List ℕ) (a b : Job) (output : List ℕ) (returned₁ returned₂ : ℕ) (output₁ output₂ answer₁ answer₂ : List ℕ) : Type 0 where
   pub returns : returned₁ ≡ returned₂
   pub answers : answer₁ ≡ answer₂
@@ -114,8 +115,9 @@ pub record Telling : Type 0 where
   pub refuses : after [] .returned ≡ 2
   pub old : runEntry sheet2 lent (replicate 24 0) ≡ record { returned = 10; output = lent; answer = replicate 24 0 }
 
--- Document 02, Note 8: calls with sheets of two owners. Demand 3 holds for B of two that differ in B's entry, and for both owners of two that differ in an entry of
--- each. What they leave differs, for B in B's column alone: the claim for A would be false of them, and of the others the claims for A and for B.
+-- Document 02, Note 8: calls with sheets of two owners. Demand 3 holds for B of two that differ in B's entry, and for
+-- both owners of two that differ in an entry of each. What they leave differs, for B in B's column alone: the claim
+-- for A would be false of them, and of the others the claims for A and for B.
 pub record OwnersTelling : Type 0 where
   pub first : CalledOn lent sheetBoth
   pub second : CalledOn lent sheetLess

@@ -208,7 +208,8 @@ pub record Note7 : Type 0 where
   pub examples : RecordExamples.AllHold RecordExamples.list
   pub ofTwo : RecordExamples.AllHold RecordExamples.ofTwo
 
--- ---- Document 02, Note 8: two owners of secrets. (The secrecy rule "for either owner by one proof": `Document01.demand3`.)
+-- ---- Document 02, Note 8: two owners of secrets. (The secrecy rule "for either owner by one proof":
+-- `Document01.demand3`.)
 
 pub record Note8 : Type 0 where
   -- calls with sheets of two owners: demand 3 for B and for both, and what it does not say

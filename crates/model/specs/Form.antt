@@ -25,8 +25,8 @@ formOf n = cond (eqb n 2) formTwo formOne
 abbrev pub thirdOf : Form → ℕ
 thirdOf f = cond (f .owners) letterB (f .high)
 
--- A form that the code can read: its limits are within what the arrays hold, a sheet of it may have a key, the bytes of its letters are those by
--- which `levelOf` tells the levels, and its number is its own.
+-- A form that the code can read: its limits are within what the arrays hold, a sheet of it may have a key, the bytes
+-- of its letters are those by which `levelOf` tells the levels, and its number is its own.
 pub record Fits (f : Form) : Type 0 where
   pub someKeys : 1 ≤ f .keys
   pub keys : f .keys ≤ keyCapacity

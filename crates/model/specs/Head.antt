@@ -25,8 +25,9 @@ readKeys f n ls = one (bytes "keys") (keysLine f) n ls
 abbrev pub allOpen : ℕ → ByKey Key
 allOpen K = everywhere K Open
 
--- Note 8: "a secret line reads `secret=key:dummy:owner`"; "on such sheets a secret line divides at its first two colons and, lacking either, gets 4, before its key".
--- What stands before the second colon, and what stands after it. In the first form there is no second colon, and the one owner goes by the name of A.
+-- Note 8: "a secret line reads `secret=key:dummy:owner`"; "on such sheets a secret line divides at its first two
+-- colons and, lacking either, gets 4, before its key". What stands before the second colon, and what stands after it.
+-- In the first form there is no second colon, and the one owner goes by the name of A.
 unfoldable pub apart : Bool → List ℕ → Parsed (List ℕ × List ℕ)
 apart false s = got (s, letterA ∷ [])
 apart true s = divide colon 4 s >>= (λ kv. divide colon 4 (kv .1) >>= (λ vo. got (kv .0 ++ (colon ∷ vo .0), vo .1)))
@@ -37,7 +38,8 @@ owner [] = refused 46
 owner (b ∷ []) = cond (eqb b letterA) (got A) (cond (eqb b letterB) (got B) (refused 46))
 owner (b ∷ c ∷ s) = refused 46
 
--- a secret, its key at least next: first the colons, then the key, the order and the dummy as in a part of a message, then the owner
+-- a secret, its key at least next: first the colons, then the key, the order and the dummy as in a part of a message,
+-- then the owner
 unfoldable pub secret : Bool → ℕ → ℕ → List ℕ → Parsed (ℕ × Key)
 secret two K next s = apart two s >>= (λ po. pair K next (po .0) >>= (λ kv. owner (po .1) >>= (λ o. got (kv .0, Secret o (kv .1)))))
 

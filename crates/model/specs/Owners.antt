@@ -1,5 +1,6 @@
--- Document 02, Note 8, "Two owners of secrets": how its sheets are read, said a second time, apart from the definitions. What is read, exactly; and examples,
--- computed from the text of the sheet, on both sides of every test and for every two tests in their order.
+-- Document 02, Note 8, "Two owners of secrets": how its sheets are read, said a second time, apart from the
+-- definitions. What is read, exactly; and examples, computed from the text of the sheet, on both sides of every test
+-- and for every two tests in their order.
 use Prim.Native.Nat.{ℕ, zero, suc}
 use Prim.Native.String.{String}
 use mathlib.Core.Path.{_≡_}
@@ -79,14 +80,15 @@ unfoldable pub times : ℕ → List ℕ → List ℕ
 times zero s = []
 times (suc n) s = s ++ times n s
 
--- a sheet of the second form, with K, so many `send`s before a `jump`, so many empty messages, and what follows `turns=`
+-- a sheet of the second form, with K, so many `send`s before a `jump`, so many empty messages, and what follows
+-- `turns=`
 unfoldable pub wide : String → ℕ → String → ℕ → List ℕ → List ℕ
 wide k n t ms ls =
     bytes "sheet=2\nkeys=" ++ (bytes k
     ++ (bytes "\n" ++ (times n (bytes "do=send\n") ++ (bytes "do=jump " ++ (bytes t ++ (bytes "\n" ++ (times ms (bytes "msg=\n") ++ (bytes "turns=" ++ (ls ++ bytes "\n")))))))))
 
--- Sheets that are accepted: the worked one and its relatives; owners in either order, one with no key, none at all; the ends of the dummy's range; turns of one
--- owner alone.
+-- Sheets that are accepted: the worked one and its relatives; owners in either order, one with no key, none at all;
+-- the ends of the dummy's range; turns of one owner alone.
 unfoldable pub accepts : List Example
 accepts =
     says sheetBoth jobBoth
@@ -100,9 +102,10 @@ accepts =
     ∷ says (short "sheet=1\nkeys=1\nsecret=0:300\n") (shortJob 1 (Secret A (pos 300) ∷ []))
     ∷ []
 
--- "a secret line divides at its first two colons and, lacking either, gets 4, before its key": before the order as well. Then the key (4), the order (5), the dummy
--- (4), the owner (46), which is all that follows the second colon; each two of these in one line. Then the letters of either form in the other, a secret line of
--- either form in the other, and the numbers of forms that there are not.
+-- "a secret line divides at its first two colons and, lacking either, gets 4, before its key": before the order as
+-- well. Then the key (4), the order (5), the dummy (4), the owner (46), which is all that follows the second colon;
+-- each two of these in one line. Then the letters of either form in the other, a secret line of either form in the
+-- other, and the numbers of forms that there are not.
 unfoldable pub refuses : List Example
 refuses =
     gets (withSecret "1") 4 3

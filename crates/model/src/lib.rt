@@ -62,8 +62,9 @@ pub const TEXT_NUMBERS: usize = 3;
 
 pub const TEXT_ANSWER_BYTES: usize = 4 * TEXT_NUMBERS;
 
-// A form of sheets, which the line `sheet` chooses: the most keys, commands, messages and letters that such a sheet may have, the bytes of the
-// letters of its low turns and of the first owner's, and whether there is a second owner, so that each `secret` line names one.
+// A form of sheets, which the line `sheet` chooses: the most keys, commands, messages and letters that such a sheet
+// may have, the bytes of the letters of its low turns and of the first owner's, and whether there is a second owner,
+// so that each `secret` line names one.
 pub struct Form {
     pub number: u64,
     pub keys: u64,
@@ -86,7 +87,8 @@ impl Form {
         Form::one()
     }
 
-    // The letter of the second owner's turns, or where there is none that of the first's again: so a byte is held to three letters whatever the form.
+    // The letter of the second owner's turns, or where there is none that of the first's again: so a byte is held to
+    // three letters whatever the form.
     pub fn third(self) -> u8
         ensures { λ r. ⌜ r ≡ thirdOf self ⌝ }
     {

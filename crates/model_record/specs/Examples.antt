@@ -1,4 +1,5 @@
--- Examples of document 02, Notes 7 and 8: the records of document 01's sheet A and of a sheet of two owners, and records that differ from them in one place each.
+-- Examples of document 02, Notes 7 and 8: the records of document 01's sheet A and of a sheet of two owners, and
+-- records that differ from them in one place each.
 use Prim.Native.Nat.{ℕ}
 use mathlib.Core.Path.{_≡_}
 use mathlib.Core.List.{List, [], _∷_}
@@ -179,8 +180,9 @@ list =
     ∷ example (counted recordA 2 2 5 1 10) 0 54 0
     ∷ []
 
--- The same of the sheet of two owners: "each with its own letters and limits". Either owner of either key; none, and bytes beside theirs; an owner beyond the count;
--- each letter, and that of the other form; the other form, and numbers that are none.
+-- The same of the sheet of two owners: "each with its own letters and limits". Either owner of either key; none, and
+-- bytes beside theirs; an owner beyond the count; each letter, and that of the other form; the other form, and
+-- numbers that are none.
 unfoldable pub ofTwo : List Example
 ofTwo =
     example recordTwo 167 0 167

@@ -75,8 +75,8 @@ rising K next (k ∷ ks) = (leb next k && ltb k K) && rising K (k + 1) ks
 abbrev pub inRange : ℤ → Bool
 inRange z = leb (mag z) greatestNumber
 
--- Note 8: "The writer of Note 7 takes both forms, each with its own letters and limits." Where owners are named, the byte of `A` or `B`; else none, 0: "gives the
--- same record", and another owner would not come back.
+-- Note 8: "The writer of Note 7 takes both forms, each with its own letters and limits." Where owners are named, the
+-- byte of `A` or `B`; else none, 0: "gives the same record", and another owner would not come back.
 abbrev pub ownerFits : Bool → ℕ → Bool
 ownerFits false o = eqb o 0
 ownerFits true o = eqb o letterA || eqb o letterB

@@ -98,8 +98,9 @@ OnlyTheirs =
     (o : Whose) (f : Rule) (cs : List Command) (w : Owner) (s : State)
     → (Among o w → only o f cs (High w) s ≡ f cs (High w) s) × (¬ Among o w → only o f cs (High w) s ≡ following cs (High w) s)
 
--- By whatever rule the execution of an owner goes, document 01's or any other, a run leaves the seven numbers and every byte outside that owner's columns that
--- it leaves by this one; and by whatever rule both go, every byte outside the secret columns. Of jobs, and of accepted sheets as texts. (A refused sheet is not run.)
+-- By whatever rule the execution of an owner goes, document 01's or any other, a run leaves the seven numbers and
+-- every byte outside that owner's columns that it leaves by this one; and by whatever rule both go, every byte
+-- outside the secret columns. Of jobs, and of accepted sheets as texts. (A refused sheet is not run.)
 abbrev pub OnlySecretColumns : Type 0
 OnlySecretColumns =
     (o : Whose) (f : Rule) (j : Job) (m : List ℕ) → Indistinguishable o (j .keys) (leftBy m (runJob j (length m))) (leftBy m (runJobBy (only o f) j (length m)))

@@ -67,8 +67,9 @@ plainLines j N = linesFrom (onReal j) 0 N
 abbrev pub HoldsLines : Job → ℕ → ℕ → Type 0
 HoldsLines j N lent = lineLength (j .keys) * length (plainLines j N) ≤ lent
 
--- Of every job whose secrets are one owner's, as those of a sheet with the letters `L` and `H` are, whatever its keys, commands, messages and dummies, and every N,
--- so that those from 1 to 512 are among them: the lines of the paired run are those lines. (How it ends is no part of the claim.)
+-- Of every job whose secrets are one owner's, as those of a sheet with the letters `L` and `H` are, whatever its
+-- keys, commands, messages and dummies, and every N, so that those from 1 to 512 are among them: the lines of the
+-- paired run are those lines. (How it ends is no part of the claim.)
 abbrev pub HonestLosesNothing : Type 0
 HonestLosesNothing = (j : Job) (N lent : ℕ) → Every (KeyBy false) (j .keys) → j .turns ≡ timesLH N → Honest j N → HoldsLines j N lent → runJob j lent .lines ≡ plainLines j N
 

@@ -8,9 +8,9 @@ use Rattle.model_run.specs.Data.{Entry, Absent, Number, Key, Open, Secre
 
 -- ---- `receive`
 
--- "at an open key both fields are the entry or absent. At a secret key the low field is the dummy, whether or not the line has that key, and the
--- high field is the entry or absent." Document 02, Note 8: "At each message line A's sees A's entries and B's dummies, whether or not the line has those keys,
--- and B's the reverse"
+-- "at an open key both fields are the entry or absent. At a secret key the low field is the dummy, whether or not the
+-- line has that key, and the high field is the entry or absent." Document 02, Note 8: "At each message line A's sees
+-- A's entries and B's dummies, whether or not the line has those keys, and B's the reverse"
 unfoldable pub shown : Level → Key → Entry → Entry
 shown l Open e = e
 shown Low (Secret o d) e = Number d
@@ -24,8 +24,8 @@ unfoldable pub fill : Level → List Key → List Entry → List Entry
 fill l [] es = []
 fill l (k ∷ ks) es = shown l k (getD es 0 Absent) ∷ fill l ks (drop 1 es)
 
--- "`receive` takes the next message line and fills all fields"; "With no line left, every field becomes absent."; Note 8: "with no line left every field becomes
--- absent, as before"
+-- "`receive` takes the next message line and fills all fields"; "With no line left, every field becomes absent.";
+-- Note 8: "with no line left every field becomes absent, as before"
 unfoldable pub received : List Key → List (List Entry) → Level → List Entry
 received ks [] l = absentFields (length ks)
 received ks (line ∷ rest) l = fill l ks line
@@ -42,7 +42,8 @@ receive ks s =
 
 -- ---- `send`
 
--- "open keys from the low fields, secret keys from the high fields"; Note 8: "A secret column comes from its owner's execution."
+-- "open keys from the low fields, secret keys from the high fields"; Note 8: "A secret column comes from its owner's
+-- execution."
 unfoldable pub source : Key → Level
 source Open = Low
 source (Secret o d) = High o

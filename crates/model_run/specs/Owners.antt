@@ -1,5 +1,6 @@
--- Document 02, Note 8, "Two owners of secrets": what is claimed of its runs beside demand 3, apart from the definitions; examples, computed from the text of the
--- sheet; and sheets of which demand 3 speaks for B and for both owners.
+-- Document 02, Note 8, "Two owners of secrets": what is claimed of its runs beside demand 3, apart from the
+-- definitions; examples, computed from the text of the sheet; and sheets of which demand 3 speaks for B and for both
+-- owners.
 use Prim.Native.Nat.{ℕ, _<_, _≤_}
 use Prim.Native.String.{String}
 use mathlib.Core.Path.{_≡_}
@@ -13,14 +14,15 @@ use Rattle.model_run.specs.{Run.runJob, Whole.runSheet, Secrecy.Whose, S
 use Rattle.model_run.specs.{Examples.Example, Examples.prints, Examples.lentByRunsheet}
 use Rattle.model_run.specs.Data.{Entry, Absent, Number, Key, Open, Secret, Owner, A, B, Level, Low, High}
 
--- ---- "At each message line A's sees A's entries and B's dummies, whether or not the line has those keys, and B's the reverse"
+-- ---- "At each message line A's sees A's entries and B's dummies, whether or not the line has those keys, and B's
+-- the reverse"
 
 -- what the execution of a level has at key k
 abbrev pub fieldAt : Level → ℕ → State → Entry
 fieldAt l k s = getD (process l s .fields) k Absent
 
--- At key k of a line with the entries es: at an open key every execution sees the entry, or that there is none; at a secret key its owner's does, and the two others
--- the dummy.
+-- At key k of a line with the entries es: at an open key every execution sees the entry, or that there is none; at a
+-- secret key its owner's does, and the two others the dummy.
 pub record Sees (ks : List Key) (es : List Entry) (k : ℕ) (s : State) : Type 0 where
   pub atOpen : getD ks k Open ≡ Open → (l : Level) → fieldAt l k s ≡ getD es k Absent
   pub atOwn : (o : Owner) (d : ℤ) → getD ks k Open ≡ Secret o d → fieldAt (High o) k s ≡ getD es k Absent
@@ -57,7 +59,8 @@ NotLookedAt =
     (o : Owner) (j : Job) (lent : ℕ) (p : Process) → Every (λ (k : Key). ¬ OwnedBy (of o) k) (j .keys)
     → run (j .keys) (j .commands) lent (withProcess (High o) p (initial (j .keys) (j .messages))) (j .turns) ≡ runJob j lent
 
--- In the first form all secrets are one owner's: so B's execution is not looked at, and what demand 3 says of both owners it says of the one
+-- In the first form all secrets are one owner's: so B's execution is not looked at, and what demand 3 says of both
+-- owners it says of the one
 abbrev pub OneOwner : Type 0
 OneOwner = (s : List ℕ) (j : Job) → readSheet s ≡ accepted j → j .form ≡ 1 → Every (λ (k : Key). ¬ OwnedBy (of B) k × (OwnedBy both k → OwnedBy (of A) k)) (j .keys)
 
@@ -67,8 +70,9 @@ OneOwner = (s : List ℕ) (j : Job) → readSheet s ≡ accepted j → j .form �
 unfoldable pub sheetApart : String → String → String → List ℕ
 sheetApart cs m t = bytes "sheet=2\nkeys=2\nsecret=0:1:A\nsecret=1:1:B\n" ++ (bytes cs ++ (bytes "msg=" ++ (bytes m ++ (bytes "\nturns=" ++ (bytes t ++ bytes "\n")))))
 
--- A, whose entry is 0, leaves out the `send` that B and the low execution make. A is the first to make its second call; B's second call is held to the low one's
--- second all the same, whatever A counts: so B puts its 9, too. At the last `send` all three are at another place.
+-- A, whose entry is 0, leaves out the `send` that B and the low execution make. A is the first to make its second
+-- call; B's second call is held to the low one's second all the same, whatever A counts: so B puts its 9, too. At the
+-- last `send` all three are at another place.
 unfoldable pub ahead : List ℕ
 ahead = sheetApart "do=receive\ndo=read 0 0\ndo=ifzero 0 4\ndo=send\ndo=set 1 9\ndo=put 0 1\ndo=put 1 1\ndo=send\n" "0:0,1:5" "LABLLLAAAAAABBBBBBLLLL"
 
@@ -82,9 +86,10 @@ wrongCall =
 unfoldable pub clampedHigh : List ℕ
 clampedHigh = sheetApart "do=receive\ndo=read 0 0\ndo=read 1 1\ndo=mul 0 0\ndo=mul 1 1\ndo=send\n" "0:2147483647,1:-2147483648" "LABLABLABLABLABLAB"
 
--- A's column is 10 + 400, B's 300 + 20. Only B's entry differs: only B's column does; and likewise A's. A line that lacks A's key shows A's dummy to B all the same;
--- with no line left every field is absent, the dummies too. A memory that lacks a byte. An owner without turns has its entry as it came; one owner of both keys; more
--- letters of the owners than they can use.
+-- A's column is 10 + 400, B's 300 + 20. Only B's entry differs: only B's column does; and likewise A's. A line that
+-- lacks A's key shows A's dummy to B all the same; with no line left every field is absent, the dummies too. A memory
+-- that lacks a byte. An owner without turns has its entry as it came; one owner of both keys; more letters of the
+-- owners than they can use.
 unfoldable pub examples : List Example
 examples =
     prints sheetBoth lentByRunsheet "sent=0018 +0000000007 +0000000410 +0000000320\nend=0 0 19 7 46 1 0\n"
@@ -106,15 +111,17 @@ examples =
 abbrev pub lent : List ℕ
 lent = replicate 64 0
 
--- a place that lies in one of their columns of what the first of these sheets leaves, and the byte that a sheet leaves at a place
+-- a place that lies in one of their columns of what the first of these sheets leaves, and the byte that a sheet
+-- leaves at a place
 abbrev pub HiddenOf : Whose → ℕ → Type 0
 HiddenOf o p = Hidden o keysTwo (bytesWritten (numbersOf (runSheet sheetBoth lent .answer))) p
 
 abbrev pub byteOf : List ℕ → ℕ → ℕ
 byteOf s p = getD (runSheet s lent .memory) p 0
 
--- Two sheets that differ in B's entry alone are accepted and alike; what they leave differs, and only in B's column, the places 34 to 44. A's column, the places 22
--- to 32, is not among the hidden places of that claim; and they are not alike to one who sees all but what A has.
+-- Two sheets that differ in B's entry alone are accepted and alike; what they leave differs, and only in B's column,
+-- the places 34 to 44. A's column, the places 22 to 32, is not among the hidden places of that claim; and they are
+-- not alike to one who sees all but what A has.
 pub record TellingB : Type 0 where
   pub acceptsBoth : readSheet sheetBoth ≡ accepted jobBoth
   pub acceptsLess : readSheet sheetLess ≡ accepted jobLess
@@ -125,8 +132,8 @@ pub record TellingB : Type 0 where
   pub clear : (p : ℕ) → HiddenOf (of B) p → (34 ≤ p) × (p ≤ 44)
   pub apart : ¬ Indistinguishable (of A) keysTwo (runSheet sheetBoth lent) (runSheet sheetLess lent)
 
--- Two sheets that differ in an entry of each owner, A's missing in one: what they leave differs in both columns, and in these alone. Neither owner's columns alone
--- hold all that differs.
+-- Two sheets that differ in an entry of each owner, A's missing in one: what they leave differs in both columns, and
+-- in these alone. Neither owner's columns alone hold all that differs.
 pub record TellingBoth : Type 0 where
   pub acceptsOther : readSheet sheetOther ≡ accepted jobOther
   pub alike : Alike both jobBoth jobOther

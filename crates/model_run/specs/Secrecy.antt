@@ -7,8 +7,9 @@ use Rattle.model.specs.{Job.Job, Answer.numbersOf, Answer.bytesWritten, Sheet.a
 use Rattle.model_run.specs.{Whole.Left, Whole.leftBy, Whole.runSheet, Run.runJob}
 use Rattle.model_run.specs.Data.{Absent, Key, Open, Secret, Owner}
 
--- Whose secrets: those of one owner, or of both. The statement is made over them. Document 02, Note 8: "The secrecy rule is shown for either owner by one proof: if
--- only B's entries differ, everything outside B's columns is equal, and likewise for A." Of both it is what document 01 says of all secret entries.
+-- Whose secrets: those of one owner, or of both. The statement is made over them. Document 02, Note 8: "The secrecy
+-- rule is shown for either owner by one proof: if only B's entries differ, everything outside B's columns is equal,
+-- and likewise for A." Of both it is what document 01 says of all secret entries.
 pub data Whose : Type 0 where
   of : Owner → Whose
   both : Whose
@@ -22,8 +23,9 @@ abbrev pub OwnedBy : Whose → Key → Type 0
 OwnedBy o Open = ⊥
 OwnedBy o (Secret w d) = Among o w
 
--- Two jobs that differ in the message entries of such keys, and in nothing else. (Their forms need not be the same: a run does not look at them.) "The
--- messages are compared in order: at each open key, the j-th line of A and the j-th line of B hold the same number or both lack the key."
+-- Two jobs that differ in the message entries of such keys, and in nothing else. (Their forms need not be the same: a
+-- run does not look at them.) "The messages are compared in order: at each open key, the j-th line of A and the j-th
+-- line of B hold the same number or both lack the key."
 pub record Alike (o : Whose) (a b : Job) : Type 0 where
   pub keys : a .keys ≡ b .keys
   pub commands : a .commands ≡ b .commands
@@ -41,7 +43,8 @@ pub record Hidden (o : Whose) (ks : List Key) (bytes p : ℕ) : Type 0 where
   pub from : 10 + 12 * key ≤ p % (10 + 12 * length ks)
   pub to : p % (10 + 12 * length ks) ≤ 20 + 12 * key
 
--- What two runs have in common: the seven numbers, the length of the memory, and the byte at every place outside the columns of these keys
+-- What two runs have in common: the seven numbers, the length of the memory, and the byte at every place outside the
+-- columns of these keys
 pub record Indistinguishable (o : Whose) (ks : List Key) (x y : Left) : Type 0 where
   pub numbers : numbersOf (x .answer) ≡ numbersOf (y .answer)
   pub size : length (x .memory) ≡ length (y .memory)

@@ -1,4 +1,5 @@
--- The state of a run: the executions, each with its own fields of the one message, the kinds of the calls made, what came in, what went out, and the clock.
+-- The state of a run: the executions, each with its own fields of the one message, the kinds of the calls made, what
+-- came in, what went out, and the clock.
 use mathlib.Core.List.{List, [], _∷_, _++_}
 use Prim.Native.Nat.{ℕ, _+_}
 use Rattle.model_run.specs.{Process.Process, Line.Sent}
@@ -19,7 +20,8 @@ role (High o) = follows
 abbrev pub leader : Level
 leader = Low
 
--- The executions, one for each level. "There are three executions."; in a sheet of the first form B's has no turn and no key.
+-- The executions, one for each level. "There are three executions."; in a sheet of the first form B's has no turn and
+-- no key.
 pub record Processes : Type 0 where
   pub low : Process
   pub a : Process

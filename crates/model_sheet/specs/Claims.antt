@@ -20,8 +20,9 @@ WritesBack = (s : List ℕ) (j : Job) → readSheet s ≡ accepted j → sheetTe
 abbrev pub Exactly : Type 0
 Exactly = (s : List ℕ) (j : Job) → (readSheet s ≡ accepted j) ↔ (Sound j × (sheetText j ≡ s))
 
--- No sheet has more bytes than these: 8 of `sheet`, 7 of `keys`, 8 secrets of 21, or with an owner of 23, 64 commands of 21, 32 messages of 116, and 1,031 of
--- `turns`. The limit of 16,384 bytes is never reached, so no written sheet is refused with 1.
+-- No sheet has more bytes than these: 8 of `sheet`, 7 of `keys`, 8 secrets of 21, or with an owner of 23, 64 commands
+-- of 21, 32 messages of 116, and 1,031 of `turns`. The limit of 16,384 bytes is never reached, so no written sheet is
+-- refused with 1.
 abbrev pub longestBy : Bool → ℕ
 longestBy false = 6270
 longestBy true = 6286

@@ -1,4 +1,5 @@
-// The fields of a record one by one: whether an owner, a command and the letters are as they must be, and what an owner and a command say.
+// The fields of a record one by one: whether an owner, a command and the letters are as they must be, and what an
+// owner and a command say.
 //
 // Tests that do not guard one another are joined by `&`, so that there is no branch between them.
 use model::Command;
@@ -53,7 +54,8 @@ fn limit(has: bool, most: u32) -> u32
     if has { most } else { 0 }
 }
 
-// By the places of the words in the table: set 0, add 1 to div 4, read 5, has 6, put 7, drop 8, ifneg 9, ifzero 10, jump 11.
+// By the places of the words in the table: set 0, add 1 to div 4, read 5, has 6, put 7, drop 8, ifneg 9, ifzero 10,
+// jump 11.
 fn limits_at(word: u32, last: u32, count: u32) -> Limits
     ensures { λ r. ⌜ LimitsAt word last count r ⌝ }
 {

@@ -43,7 +43,8 @@ fn checked_of(known: bool) -> Checked
     Checked::Refused(9)
 }
 
-// What follows `turns=`, copied as it is tested. No byte decides what is done next, so that the compiler tests and copies many in one step.
+// What follows `turns=`, copied as it is tested. No byte decides what is done next, so that the compiler tests and
+// copies many in one step.
 fn copy_letters(s: &[u8], form: Form) -> Letters
     requires { ⌜ Fits form ⌝ }
     ensures { λ r. ⌜ LettersCopied form (now (s .entry)) r ⌝ }

@@ -34,7 +34,8 @@ fn owner_of(key: Key) -> Owner
     }
 }
 
-// A key's fields where the line has the entry e at it. Written so that the compiler makes of a receive with no line left a loop of its own.
+// A key's fields where the line has the entry e at it. Written so that the compiler makes of a receive with no line
+// left a loop of its own.
 fn field(key: Key, e: Entry) -> Field
     ensures { λ r. ⌜ r ≡ fieldOf key e ⌝ }
 {
