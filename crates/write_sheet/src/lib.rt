@@ -4,75 +4,23 @@ use model::KEY_CAPACITY;
 use model::Key;
 use model::KeySlot;
 use model::LETTER_CAPACITY;
-use model::Owner;
 use model::StoredJob;
 use model_sheet::LONGEST_SHEET;
 use model_sheet::letter_of;
 use write_commands::put_commands;
+use write_head::put_head;
+use write_head::put_secret;
 use write_messages::put_messages;
-use write_messages::put_pair;
 use write_text::put_byte;
-use write_text::put_natural;
 use write_text::put_word;
 ghost use mathlib.Core.Path.{_≡_};
 ghost use mathlib.Core.List.{map};
-ghost use Prim.Native.Nat.{_<_, _≤_};
+ghost use Prim.Native.Nat.{_≤_};
 ghost use lib.{Dec.leb, ListN.take, ListN.length};
-ghost use Rattle.model.specs.{Limits.forms, Stored.keyCapacity, Stored.letterCapacity, Stored.keysIn, Stored.levelOf, Stored.Stored, Stored.jobOf, Accepted.Sound};
-ghost use Rattle.model_sheet.specs.Sheet.{headLines, ownerLetter, ownerText, secretLines, letterOf, turnsLines, sheetText};
+ghost use Rattle.model.specs.{Stored.keyCapacity, Stored.letterCapacity, Stored.keysIn, Stored.levelOf, Stored.Stored, Stored.jobOf, Accepted.Sound};
+ghost use Rattle.model_sheet.specs.Sheet.{secretLines, letterOf, turnsLines, sheetText};
 ghost use Rattle.write_text.specs.Put.{Put, Room};
-ghost use Rattle.write_sheet.specs.Sheet.{formText, secretEnded, HasRoom};
-
-// `sheet=`, the number of the form, a line feed and `keys=`
-fn put_form(out: &mut [u8], at: usize, form: u64) -> usize
-    requires { ⌜ (form ≤ forms) × Room (now out) at (formText form) ⌝ }
-    ensures { λ r. ⌜ Put (now (out .entry)) at (formText form) (now (out .exit)) r ⌝ }
-{
-    let number = put_word(out, at, b"sheet=");
-    let end = put_natural(out, number, form as u32);
-    put_word(out, end, b"\nkeys=")
-}
-
-// the lines `sheet` and `keys`
-fn put_head(out: &mut [u8], at: usize, form: u64, keys: usize) -> usize
-    requires { ⌜ (form ≤ forms) × (keys ≤ keyCapacity) × Room (now out) at (headLines form keys) ⌝ }
-    ensures { λ r. ⌜ Put (now (out .entry)) at (headLines form keys) (now (out .exit)) r ⌝ }
-{
-    let number = put_form(out, at, form);
-    let end = put_natural(out, number, keys as u32);
-    put_byte(out, end, b'\n')
-}
-
-fn owner_letter(owner: Owner) -> u8
-    ensures { λ r. ⌜ r ≡ ownerLetter owner ⌝ }
-{
-    match owner {
-        Owner::A => b'A',
-        Owner::B => b'B',
-    }
-}
-
-// A colon and the owner, where it is named.
-fn put_owner(out: &mut [u8], at: usize, owners: bool, owner: Owner) -> usize
-    requires { ⌜ Room (now out) at (ownerText owners owner) ⌝ }
-    ensures { λ r. ⌜ Put (now (out .entry)) at (ownerText owners owner) (now (out .exit)) r ⌝ }
-{
-    if owners {
-        let letter = put_byte(out, at, b':');
-        return put_byte(out, letter, owner_letter(owner));
-    }
-    at
-}
-
-fn put_secret(out: &mut [u8], at: usize, owners: bool, k: usize, owner: Owner, dummy: i32) -> usize
-    requires { ⌜ (k < keyCapacity) × Room (now out) at (secretEnded owners k owner dummy) ⌝ }
-    ensures { λ r. ⌜ Put (now (out .entry)) at (secretEnded owners k owner dummy) (now (out .exit)) r ⌝ }
-{
-    let pair = put_word(out, at, b"secret=");
-    let end = put_pair(out, pair, k, dummy);
-    let named = put_owner(out, end, owners, owner);
-    put_byte(out, named, b'\n')
-}
+ghost use Rattle.write_sheet.specs.Sheet.{HasRoom};
 
 // The lines of the secret ones among the first keys.
 fn put_secrets(
