@@ -1,7 +1,8 @@
 /*
  * The stack that the archive uses: `stack run SHEETS` for pavebox_run, `stack csv EXPORTS` for
  * pavebox_csv, `stack blocks PROGRAMS` for pavebox_blocks with K 8, `stack read SHEETS` for
- * pavebox_read, `stack write SHEETS` for pavebox_write with the record of each sheet. Each file that the
+ * pavebox_read, `stack write SHEETS` for pavebox_write with the record of each sheet, `stack to_sheet2
+ * SHEETS` for pavebox_to_sheet2, `stack to_sheet1 SHEETS` for pavebox_to_sheet1. Each file that the
  * command line names is handed over on a stack of our own, painted with one byte. The deepest byte that
  * has changed tells how much was used. A byte may be written without a change, so each file is tried
  * with two paints. What a function that does nothing uses in the same place is taken off. Exit status 2:
@@ -162,6 +163,16 @@ static size_t used_by_csv(void)
     return used(pavebox_csv);
 }
 
+static size_t used_by_to_sheet2(void)
+{
+    return used(pavebox_to_sheet2);
+}
+
+static size_t used_by_to_sheet1(void)
+{
+    return used(pavebox_to_sheet1);
+}
+
 struct measured {
     const char *name;
     size_t answer_bytes;
@@ -177,6 +188,8 @@ static const struct measured *find(const char *name)
         {"blocks", PAVEBOX_BLOCKS_ANSWER_BYTES, used_by_blocks},
         {"write", PAVEBOX_WRITE_ANSWER_BYTES, used_by_write},
         {"read", PAVEBOX_JOB_ANSWER_BYTES, used_by_read},
+        {"to_sheet2", PAVEBOX_FORM_ANSWER_BYTES, used_by_to_sheet2},
+        {"to_sheet1", PAVEBOX_FORM_ANSWER_BYTES, used_by_to_sheet1},
     };
     size_t place;
     for (place = 0; place < sizeof entries / sizeof entries[0]; place++)

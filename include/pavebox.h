@@ -1,17 +1,17 @@
 /*
  * The confidential run of one sheet: a low execution and a high one, or one for each of two owners of
  * secrets, and one message; the msg lines of a sheet out of the export of a belt log; its do lines out
- * of a program with blocks; and a sheet opened as a record and saved from one. Link with libpavebox.a.
- * Where read-only memory is short, link with -Wl,--gc-sections: then only what the called entries need
- * is kept.
+ * of a program with blocks; a sheet opened as a record and saved from one; and a sheet of one form
+ * turned into the other. Link with libpavebox.a. Where read-only memory is short, link with
+ * -Wl,--gc-sections: then only what the called entries need is kept.
  *
  * A sheet has one of two forms, which its first line names. In form 1, sheet=1, the secrets have no
  * owners, and the letters of turns are L and H. In form 2, sheet=2, each secret has an owner, A or B,
  * and the letters are L, A and B: three executions. Every entry that takes a sheet or a record takes
- * both forms. docs/SHEETS.md says what they mean.
+ * both forms. docs/SHEETS.md says what they mean, docs/FORMS.md when one can be turned into the other.
  *
  * Stack, as measured on x86-64, in KB of 1,024 bytes: pavebox_run takes 20, pavebox_csv 7,
- * pavebox_blocks 7, pavebox_write 18 and pavebox_read 40.
+ * pavebox_blocks 7, pavebox_write 18, pavebox_read 40, pavebox_to_sheet2 18 and pavebox_to_sheet1 18.
  */
 #ifndef PAVEBOX_H
 #define PAVEBOX_H
@@ -112,7 +112,7 @@ static inline struct pavebox_answer pavebox_read_answer(const uint8_t *answer)
 #define PAVEBOX_MOST_CSV_OUTPUT_BYTES 3712u
 
 /* The export was accepted, or the program, and its lines are in the output memory; or the record, and
- * its sheet is there. */
+ * its sheet is there; or the sheet, and it is there in its other form. */
 #define PAVEBOX_WRITTEN 0u
 
 /* Refusals of an export: the output memory is untouched. PAVEBOX_TOO_MANY (a 33rd message) and
@@ -388,6 +388,71 @@ static inline struct pavebox_job_answer pavebox_read_job_answer(const uint8_t *a
     struct pavebox_job_answer numbers;
     numbers.number = pavebox_read_number(answer);
     numbers.line = pavebox_read_number(answer + 4);
+    return numbers;
+}
+
+/* The answer memory of pavebox_to_sheet2 and that of pavebox_to_sheet1 have exactly this many bytes. */
+#define PAVEBOX_FORM_ANSWER_BYTES 12u
+
+/* No sheet that is turned into form 2, and none that is turned into form 1, is longer than this. With
+ * so much output memory, or more, PAVEBOX_NO_ROOM_FOR_FORM never occurs. */
+#define PAVEBOX_MOST_SHEET2_BYTES 6286u
+#define PAVEBOX_MOST_SHEET1_BYTES 6270u
+
+/* Refusals of a sheet that is to be turned: the output memory is untouched. Those of reading it, which
+ * pavebox_run gives too, and PAVEBOX_BAD_ANSWER (the answer memory is not exactly 12 bytes) are further
+ * ones, and come first; then these, in the order 48, 47, 49, all at line 0. Success is
+ * PAVEBOX_WRITTEN. */
+#define PAVEBOX_CANNOT_GO_BACK 47u   /* pavebox_to_sheet1 only: a secret has the owner B, or a turn is
+                                        B's, which form 1 cannot say */
+#define PAVEBOX_HAS_THE_FORM 48u     /* the sheet already has the form asked for */
+#define PAVEBOX_NO_ROOM_FOR_FORM 49u /* the output memory is shorter than the sheet in its other form */
+
+/*
+ * Turns a sheet of form 1 into one of form 2: the first line becomes sheet=2, each secret gets the
+ * owner A, so that its line gains :A, and each H of the turns becomes A. All other lines keep their
+ * bytes.
+ *
+ * sheet, sheet_len    the sheet's bytes, which are only read. Any bytes will do.
+ * output, output_len  the output memory. The turned sheet goes to its start; behind it, and everywhere
+ *                     if the sheet is refused, it keeps its bytes.
+ * answer, answer_len  the answer memory: 12 bytes for three numbers, see pavebox_read_form_answer.
+ *
+ * Returns PAVEBOX_WRITTEN or the refusal, which is also the first of the three numbers. If
+ * answer_len is not 12 it returns PAVEBOX_BAD_ANSWER and writes nothing.
+ *
+ * On the same output memory pavebox_run gives the turned sheet the same seven numbers and leaves the
+ * same bytes, and pavebox_to_sheet1 gives the first bytes back.
+ *
+ * The caller's duties are those of pavebox_run. So the output memory is not the sheet's own.
+ */
+uint32_t pavebox_to_sheet2(const uint8_t *sheet, size_t sheet_len,
+                           uint8_t *output, size_t output_len,
+                           uint8_t *answer, size_t answer_len);
+
+/*
+ * Turns a sheet of form 2 back into one of form 1: the first line becomes sheet=1, each secret's line
+ * loses its :A, and each A of the turns becomes H. What is B's has no place in form 1, and gets
+ * PAVEBOX_CANNOT_GO_BACK. All else is as above, and pavebox_to_sheet2 gives the first bytes back.
+ */
+uint32_t pavebox_to_sheet1(const uint8_t *sheet, size_t sheet_len,
+                           uint8_t *output, size_t output_len,
+                           uint8_t *answer, size_t answer_len);
+
+/* The three numbers of an answer of pavebox_to_sheet2 or of pavebox_to_sheet1. */
+struct pavebox_form_answer {
+    uint32_t number;  /* PAVEBOX_WRITTEN or a refusal, as above */
+    uint32_t line;    /* the line that is refused, from 1; 0 if there is none */
+    uint32_t written; /* bytes of the turned sheet at the start of the output memory */
+};
+
+/* The three numbers from the 12 bytes that one of the two has filled. */
+static inline struct pavebox_form_answer pavebox_read_form_answer(const uint8_t *answer)
+{
+    struct pavebox_form_answer numbers;
+    numbers.number = pavebox_read_number(answer);
+    numbers.line = pavebox_read_number(answer + 4);
+    numbers.written = pavebox_read_number(answer + 8);
     return numbers;
 }
 

@@ -1,9 +1,11 @@
 //! Compares the archive with straightforward Rust programs. See README.md for the commands.
 
 mod blocks;
+mod forms;
 mod logs;
 mod plain;
 mod plain_blocks;
+mod plain_forms;
 mod plain_log;
 mod plain_record;
 mod records;
@@ -33,9 +35,7 @@ pub struct Sides<const N: usize> {
 /// Running a sheet.
 const RUN: Sides<7> = Sides {
     archive: |sheet, output| pavebox::run(sheet, output).numbers(),
-    plain: |sheet, output| {
-        plain::run(sheet, output).expect("the sheets of the comparison are accepted")
-    },
+    plain: |sheet, output| plain::run(sheet, output).expect(ACCEPTED),
 };
 
 /// Making the lines of an export.
@@ -59,11 +59,24 @@ const SAVE: Sides<2> = Sides {
 /// Opening a sheet as a record, which is at the start of the output memory.
 const OPEN: Sides<2> = Sides {
     archive: |sheet, output| pavebox::read(sheet, record_in_mut(output)).numbers(),
-    plain: |sheet, output| {
-        plain_record::open(sheet, record_in_mut(output))
-            .expect("the sheets of the comparison are accepted")
-    },
+    plain: |sheet, output| plain_record::open(sheet, record_in_mut(output)).expect(ACCEPTED),
 };
+
+/// Turning a sheet of this form into the other one.
+const fn turn(form: Form) -> Sides<3> {
+    match form {
+        Form::One => Sides {
+            archive: |sheet, output| forms::called(pavebox::to_sheet2_entry, sheet, output),
+            plain: |sheet, output| plain_forms::to_two(sheet, output).expect(ACCEPTED),
+        },
+        Form::Two => Sides {
+            archive: |sheet, output| forms::called(pavebox::to_sheet1_entry, sheet, output),
+            plain: |sheet, output| plain_forms::to_one(sheet, output).expect(ACCEPTED),
+        },
+    }
+}
+
+const ACCEPTED: &str = "the sheets of the comparison are accepted";
 
 fn main() -> ExitCode {
     let words: Vec<String> = std::env::args().skip(1).collect();
@@ -86,9 +99,9 @@ fn main() -> ExitCode {
 
 fn usage() -> String {
     "usage: bench\n       bench archive|plain COUNT \
-     [all|long|short|largest|LH|all L|random|runs|calls|log|blocks|saved|opened]\n       \
+     [all|long|short|largest|LH|all L|random|runs|calls|log|blocks|saved|opened|turned]\n       \
      bench archive|plain COUNT \
-     two|'two long|short|largest|LAB|all L|random|runs|calls|saved|opened'\n       \
+     two|'two long|short|largest|LAB|all L|random|runs|calls|saved|opened|turned'\n       \
      bench texts FOLDER"
         .to_string()
 }
@@ -109,6 +122,9 @@ fn compare_and_time() -> Result<(), String> {
     compare_all(&BLOCKS, &blocks)?;
     compare_all(&SAVE, &saved)?;
     compare_all(&OPEN, &opened)?;
+    for form in Form::ALL {
+        compare(&turn(form), &forms::turned(form))?;
+    }
     println!("archive and plain agree on all sheets, exports, programs with blocks and records");
     for (form, (halves, kinds)) in Form::ALL.into_iter().zip(&sheets) {
         time_sheets(form, halves, kinds);
@@ -120,6 +136,10 @@ fn compare_and_time() -> Result<(), String> {
     println!("full records, saved as sheets and opened from them:");
     time(&SAVE, &saved);
     time(&OPEN, &opened);
+    println!("sheets of full records, turned into the other form:");
+    for form in Form::ALL {
+        time(&turn(form), &[forms::turned(form)]);
+    }
     Ok(())
 }
 
@@ -174,6 +194,8 @@ fn run_one(side: &str, count: &str, name: &str) -> Result<(), String> {
         ("saved", _) => passes(SAVE.plain, count, &groups),
         ("opened", "archive") => passes(OPEN.archive, count, &groups),
         ("opened", _) => passes(OPEN.plain, count, &groups),
+        ("turned", "archive") => passes(turn(form).archive, count, &groups),
+        ("turned", _) => passes(turn(form).plain, count, &groups),
         (_, "archive") => passes(RUN.archive, count, &groups),
         _ => passes(RUN.plain, count, &groups),
     }
@@ -201,6 +223,7 @@ fn groups_of(form: Form, name: &str) -> Result<Vec<Group>, String> {
         (_, "largest") => vec![sheets::largest(form)],
         (_, "saved") => vec![records::saved(form)],
         (_, "opened") => vec![records::opened(form)],
+        (_, "turned") => vec![forms::turned(form)],
         (Form::One, "log") => vec![logs::full()],
         (Form::One, "blocks") => vec![blocks::full()],
         (_, kind) => of_kind(form, kind)?,
@@ -237,13 +260,14 @@ fn pass<const N: usize>(side: Side<N>, group: &Group, output: &mut [u8]) {
 }
 
 /// Writes each text to a file of its own: sheets `.txt`, exports `.csv`, programs `.blocks`, the sheets
-/// of records `.record`.
+/// of records `.record`, those that are turned `.turned`.
 fn write_texts(folder: &str) -> Result<(), String> {
     let mut groups = vec![(logs::full(), "csv"), (blocks::full(), "blocks")];
     for form in Form::ALL {
         groups.extend(sheets::halves(form).into_iter().map(|half| (half, "txt")));
         groups.push((sheets::largest(form), "txt"));
         groups.push((records::opened(form), "record"));
+        groups.push((forms::turned(form), "turned"));
     }
     for (group, suffix) in groups {
         let name = group.name.replace(' ', "_");

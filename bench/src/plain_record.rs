@@ -141,7 +141,7 @@ fn messages_of(messages: &[Message], keys: usize) -> Option<Vec<Entries>> {
     messages.iter().map(message).collect()
 }
 
-fn sheet_of(job: &Job) -> Vec<u8> {
+pub fn sheet_of(job: &Job) -> Vec<u8> {
     let mut text = Vec::with_capacity(MOST_SHEET);
     text.extend_from_slice(match job.form {
         Form::One => b"sheet=1\nkeys=",

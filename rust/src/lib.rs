@@ -55,6 +55,21 @@
 //! assert_eq!((answer.number, answer.written), (pavebox::WRITTEN, 53));
 //! assert_eq!(&output[34..53], b"msg=0:-40\nturns=LL\n");
 //! ```
+//!
+//! [`to_sheet2`] turns a sheet of form 1 into one of form 2, whose secrets all have the owner A, and
+//! [`to_sheet1`] turns it back to the first bytes:
+//!
+//! ```
+//! let old = b"sheet=1\nkeys=1\nsecret=0:5\ndo=receive\ndo=send\nmsg=0:7\nturns=LHL\n";
+//! let mut new = [0; pavebox::MOST_SHEET2_BYTES];
+//! let answer = pavebox::to_sheet2(old, &mut new);
+//! assert_eq!((answer.number, answer.written), (pavebox::WRITTEN, 65));
+//! let new = &new[..65];
+//! assert_eq!(new, b"sheet=2\nkeys=1\nsecret=0:5:A\ndo=receive\ndo=send\nmsg=0:7\nturns=LAL\n");
+//! let mut back = [0; pavebox::MOST_SHEET1_BYTES];
+//! assert_eq!(pavebox::to_sheet1(new, &mut back).numbers(), [pavebox::WRITTEN, 0, 63]);
+//! assert_eq!(&back[..63], old);
+//! ```
 
 use std::mem::{align_of, offset_of, size_of};
 
@@ -68,8 +83,9 @@ pub const LETTERS_USED: u32 = 31;
 pub const NO_ROOM: u32 = 32;
 /// What [`entry`] returns if the answer memory is not exactly [`ANSWER_BYTES`] long, [`csv_entry`] if
 /// it is not exactly [`CSV_ANSWER_BYTES`] long, [`blocks_entry`] if it is not exactly
-/// [`BLOCKS_ANSWER_BYTES`] long, [`write_entry`] if it is not exactly [`WRITE_ANSWER_BYTES`] long, and
-/// [`read_entry`] if it is not exactly [`READ_ANSWER_BYTES`] long.
+/// [`BLOCKS_ANSWER_BYTES`] long, [`write_entry`] if it is not exactly [`WRITE_ANSWER_BYTES`] long,
+/// [`read_entry`] if it is not exactly [`READ_ANSWER_BYTES`] long, and [`to_sheet2_entry`] and
+/// [`to_sheet1_entry`] if it is not exactly [`FORM_ANSWER_BYTES`] long.
 pub const BAD_ANSWER: u32 = 10;
 /// The refusal of a sheet of form 2 with a secret whose owner is neither `A` nor `B`.
 pub const BAD_OWNER: u32 = 46;
@@ -79,8 +95,8 @@ pub const CSV_ANSWER_BYTES: usize = 12;
 /// No export gives more bytes of lines. With so much output memory [`NO_ROOM_FOR_LINES`] never
 /// occurs.
 pub const MOST_CSV_OUTPUT_BYTES: usize = 3_712;
-/// The number of an export, or of a program with blocks, whose lines are in the output memory, and of a
-/// record whose sheet is there.
+/// The number of an export, or of a program with blocks, whose lines are in the output memory, of a
+/// record whose sheet is there, and of a sheet that is there in its other form.
 pub const WRITTEN: u32 = 0;
 /// The refusal of an export with a 33rd message.
 pub const TOO_MANY: u32 = 8;
@@ -172,6 +188,21 @@ pub const NO_ROOM_FOR_SHEET: u32 = 55;
 pub const READ_ANSWER_BYTES: usize = 8;
 /// The number of a sheet that the record holds.
 pub const ACCEPTED: u32 = 0;
+/// The bytes of an answer of [`to_sheet2_entry`] and of [`to_sheet1_entry`].
+pub const FORM_ANSWER_BYTES: usize = 12;
+/// No sheet that is turned into form 2 is longer. With so much output memory [`to_sheet2`] never answers
+/// [`NO_ROOM_FOR_FORM`].
+pub const MOST_SHEET2_BYTES: usize = 6_286;
+/// No sheet that is turned into form 1 is longer. With so much output memory [`to_sheet1`] never answers
+/// [`NO_ROOM_FOR_FORM`].
+pub const MOST_SHEET1_BYTES: usize = 6_270;
+/// The refusal of a sheet of form 2 that is to be turned into form 1 and has a secret with the owner `B`,
+/// or a turn `B`.
+pub const CANNOT_GO_BACK: u32 = 47;
+/// The refusal of a sheet that already has the form asked for.
+pub const HAS_THE_FORM: u32 = 48;
+/// The refusal of a sheet that is longer in its other form than the output memory.
+pub const NO_ROOM_FOR_FORM: u32 = 49;
 
 mod archive {
     use super::Job;
@@ -220,6 +251,24 @@ mod archive {
             sheet: *const u8,
             sheet_len: usize,
             job: *mut Job,
+            answer: *mut u8,
+            answer_len: usize,
+        ) -> u32;
+
+        pub fn pavebox_to_sheet2(
+            sheet: *const u8,
+            sheet_len: usize,
+            output: *mut u8,
+            output_len: usize,
+            answer: *mut u8,
+            answer_len: usize,
+        ) -> u32;
+
+        pub fn pavebox_to_sheet1(
+            sheet: *const u8,
+            sheet_len: usize,
+            output: *mut u8,
+            output_len: usize,
             answer: *mut u8,
             answer_len: usize,
         ) -> u32;
@@ -498,6 +547,33 @@ impl ReadAnswer {
     }
 }
 
+/// The three numbers of a sheet that is to be turned into its other form.
+#[derive(Debug, Clone, Copy, PartialEq, Eq)]
+pub struct FormAnswer {
+    /// 0 if the turned sheet was written, else the refusal: 1 to 9 or 46, as on reading, or 47, 48 or 49.
+    pub number: u32,
+    /// The line that is refused, from 1; 0 if there is none.
+    pub line: u32,
+    /// Bytes of the turned sheet at the start of the output memory.
+    pub written: u32,
+}
+
+impl FormAnswer {
+    /// The three numbers out of an answer memory, where each has 32 bits, low byte first.
+    pub fn from_bytes(bytes: &[u8; FORM_ANSWER_BYTES]) -> FormAnswer {
+        FormAnswer {
+            number: number(bytes, 0),
+            line: number(bytes, 1),
+            written: number(bytes, 2),
+        }
+    }
+
+    /// The three numbers in their order.
+    pub fn numbers(&self) -> [u32; 3] {
+        [self.number, self.line, self.written]
+    }
+}
+
 /// One number of an answer memory, by its place among them.
 fn number(bytes: &[u8], place: usize) -> u32 {
     let byte = |place: usize| u32::from(bytes[place]);
@@ -606,6 +682,35 @@ pub fn read_entry(sheet: &[u8], job: &mut Job, answer: &mut [u8]) -> u32 {
             answer.len(),
         )
     }
+}
+
+/// Turns a sheet of form 1 into one of form 2, with the owner `A` at each secret and an `A` for each `H` of
+/// the turns. It is at the start of `output`; behind it, and everywhere if the sheet is refused, `output`
+/// keeps its bytes.
+pub fn to_sheet2(sheet: &[u8], output: &mut [u8]) -> FormAnswer {
+    let mut answer = [0; FORM_ANSWER_BYTES];
+    to_sheet2_entry(sheet, output, &mut answer);
+    FormAnswer::from_bytes(&answer)
+}
+
+/// The same as a C program has it. It fills `answer` and returns the first of the three numbers; if
+/// `answer` is not exactly [`FORM_ANSWER_BYTES`] long it returns [`BAD_ANSWER`] and writes nothing.
+pub fn to_sheet2_entry(sheet: &[u8], output: &mut [u8], answer: &mut [u8]) -> u32 {
+    call(archive::pavebox_to_sheet2, sheet, output, answer)
+}
+
+/// Turns a sheet of form 2 back into one of form 1, if all its secrets and turns beside `L` are A's. It is
+/// at the start of `output`; behind it, and everywhere if the sheet is refused, `output` keeps its bytes.
+pub fn to_sheet1(sheet: &[u8], output: &mut [u8]) -> FormAnswer {
+    let mut answer = [0; FORM_ANSWER_BYTES];
+    to_sheet1_entry(sheet, output, &mut answer);
+    FormAnswer::from_bytes(&answer)
+}
+
+/// The same as a C program has it. It fills `answer` and returns the first of the three numbers; if
+/// `answer` is not exactly [`FORM_ANSWER_BYTES`] long it returns [`BAD_ANSWER`] and writes nothing.
+pub fn to_sheet1_entry(sheet: &[u8], output: &mut [u8], answer: &mut [u8]) -> u32 {
+    call(archive::pavebox_to_sheet1, sheet, output, answer)
 }
 
 /// Calls an entry of the archive that has three memories and nothing beside them.
@@ -1138,5 +1243,145 @@ mod tests {
         assert_eq!(Job::in_bytes(lent), Some(&job));
         assert_eq!(Job::in_bytes(&lent[..JOB_BYTES - 4]), None);
         assert_eq!(Job::in_bytes_mut(&mut lent[4..]), None);
+    }
+
+    /// The sheet `SAVED` in form 2.
+    const TURNED: &[u8] =
+        b"sheet=2\nkeys=2\nsecret=1:-300:A\ndo=receive\ndo=put 1 7\ndo=ifneg 7 4\n\
+        do=send\nmsg=\nmsg=0:1500,1:-7\nturns=LAL\n";
+
+    /// A sheet with one text in place of another, which it has once.
+    fn replaced(sheet: &[u8], old: &str, new: &str) -> Vec<u8> {
+        let sheet = String::from_utf8(sheet.to_vec()).expect("letters");
+        assert_eq!(sheet.matches(old).count(), 1);
+        sheet.replace(old, new).into_bytes()
+    }
+
+    #[test]
+    fn a_turned_sheet_stands_at_the_start_of_the_output() {
+        let (old_length, new_length) = (SAVED.len(), TURNED.len());
+        assert_eq!(new_length, old_length + 2);
+        let mut output = vec![b'~'; new_length + 3];
+        let numbers = to_sheet2(SAVED, &mut output).numbers();
+        assert_eq!(numbers, [WRITTEN, 0, new_length as u32]);
+        assert_eq!(output, [TURNED, b"~~~"].concat());
+        let mut output = vec![b'~'; old_length + 3];
+        let numbers = to_sheet1(TURNED, &mut output).numbers();
+        assert_eq!(numbers, [WRITTEN, 0, old_length as u32]);
+        assert_eq!(output, [SAVED, b"~~~"].concat());
+    }
+
+    #[test]
+    fn just_enough_memory_is_enough_for_a_turned_sheet() {
+        let mut just_fits = vec![b'~'; TURNED.len()];
+        assert_eq!(to_sheet2(SAVED, &mut just_fits).number, WRITTEN);
+        assert_eq!(just_fits, TURNED);
+        let mut just_fits = vec![b'~'; SAVED.len()];
+        assert_eq!(to_sheet1(TURNED, &mut just_fits).number, WRITTEN);
+        assert_eq!(just_fits, SAVED);
+        let mut short = vec![b'~'; TURNED.len() - 1];
+        let no_room = [NO_ROOM_FOR_FORM, 0, 0];
+        assert_eq!(to_sheet2(SAVED, &mut short).numbers(), no_room);
+        assert_eq!(short, vec![b'~'; TURNED.len() - 1]);
+        short.truncate(SAVED.len() - 1);
+        assert_eq!(to_sheet1(TURNED, &mut short).numbers(), no_room);
+        assert_eq!(short, vec![b'~'; SAVED.len() - 1]);
+    }
+
+    #[test]
+    fn each_number_of_a_turned_sheet_has_its_name_and_place() {
+        let bytes = std::array::from_fn(|place| place as u8);
+        let answer = FormAnswer {
+            number: 0x03_02_01_00,
+            line: 0x07_06_05_04,
+            written: 0x0b_0a_09_08,
+        };
+        assert_eq!(FormAnswer::from_bytes(&bytes), answer);
+        let bytes_again = answer.numbers().map(u32::to_le_bytes).concat();
+        assert_eq!(bytes_again, bytes);
+    }
+
+    #[test]
+    fn a_sheet_that_is_not_turned_leaves_the_output_as_it_is() {
+        let owner_b = replaced(TURNED, ":A", ":B");
+        let turn_b = replaced(TURNED, "LAL", "LBL");
+        let bad_owner = replaced(TURNED, ":A", ":C");
+        let bad_letter = replaced(SAVED, "LHL", "LAL");
+        let refused: [(&[u8], [u32; 2], [u32; 2]); 8] = [
+            (SAVED, [NO_ROOM_FOR_FORM, 0], [HAS_THE_FORM, 0]),
+            (TURNED, [HAS_THE_FORM, 0], [NO_ROOM_FOR_FORM, 0]),
+            (OWNED, [HAS_THE_FORM, 0], [CANNOT_GO_BACK, 0]),
+            (&owner_b, [HAS_THE_FORM, 0], [CANNOT_GO_BACK, 0]),
+            (&turn_b, [HAS_THE_FORM, 0], [CANNOT_GO_BACK, 0]),
+            (&bad_owner, [BAD_OWNER, 3], [BAD_OWNER, 3]),
+            (&bad_letter, [9, 10], [9, 10]),
+            (b"sheet=3\n", [BAD_NUMBER, 1], [BAD_NUMBER, 1]),
+        ];
+        for (sheet, [number, line], [number_back, line_back]) in refused {
+            let mut output = [b'~'; 20];
+            let numbers = to_sheet2(sheet, &mut output).numbers();
+            assert_eq!(numbers, [number, line, 0]);
+            let numbers = to_sheet1(sheet, &mut output).numbers();
+            assert_eq!(numbers, [number_back, line_back, 0]);
+            assert_eq!(output, [b'~'; 20]);
+        }
+    }
+
+    #[test]
+    fn a_turned_sheet_runs_to_the_same_lines_and_numbers() {
+        let high = b"sheet=1\nkeys=2\nsecret=1:-3\ndo=receive\ndo=read 0 1\ndo=add 0 0\n\
+            do=put 1 0\ndo=send\nmsg=0:1500,1:-7\nturns=LHLHLHLHLH\n";
+        let mut turned = vec![b'~'; high.len() + 2];
+        assert_eq!(to_sheet2(high, &mut turned).number, WRITTEN);
+        for lent in [0, 33, 34, 35] {
+            let (mut before, mut after) = (vec![b'~'; lent], vec![b'~'; lent]);
+            assert_eq!(run(high, &mut before), run(&turned, &mut after));
+            assert_eq!(before, after);
+        }
+        let mut sent = [b'~'; 34];
+        assert_eq!(run(&turned, &mut sent).ending, STOPPED);
+        assert_eq!(&sent, b"sent=0008 +0000001500 -0000000014\n");
+    }
+
+    #[test]
+    fn empty_memories_are_lawful_for_a_turned_sheet() {
+        let no_room = [NO_ROOM_FOR_FORM, 0, 0];
+        assert_eq!(to_sheet2(SAVED, &mut []).numbers(), no_room);
+        assert_eq!(to_sheet1(TURNED, &mut []).numbers(), no_room);
+        assert_eq!(to_sheet2(&[], &mut []).numbers(), [BAD_BYTE, 1, 0]);
+        assert_eq!(to_sheet1(&[], &mut []).numbers(), [BAD_BYTE, 1, 0]);
+        assert_eq!(to_sheet2_entry(&[], &mut [], &mut []), BAD_ANSWER);
+        assert_eq!(to_sheet1_entry(&[], &mut [], &mut []), BAD_ANSWER);
+    }
+
+    #[test]
+    fn another_length_is_refused_for_a_turned_sheet_too() {
+        for length in [0, 4, 8, 11, 13, ANSWER_BYTES] {
+            for sheet in [SAVED, TURNED, b"sheet=3\n"] {
+                let (mut output, mut answer) = ([b'~'; 200], vec![b'~'; length]);
+                let returned = to_sheet2_entry(sheet, &mut output, &mut answer);
+                assert_eq!(returned, BAD_ANSWER);
+                let returned = to_sheet1_entry(sheet, &mut output, &mut answer);
+                assert_eq!(returned, BAD_ANSWER);
+                assert_eq!((output, answer), ([b'~'; 200], vec![b'~'; length]));
+            }
+        }
+    }
+
+    #[test]
+    fn an_entry_that_turns_a_sheet_returns_the_first_number() {
+        let (mut output, mut answer) = ([b'~'; MOST_SHEET2_BYTES], [b'~'; FORM_ANSWER_BYTES]);
+        for (sheet, number, number_back) in [
+            (SAVED, WRITTEN, HAS_THE_FORM),
+            (TURNED, HAS_THE_FORM, WRITTEN),
+            (OWNED, HAS_THE_FORM, CANNOT_GO_BACK),
+        ] {
+            let returned = to_sheet2_entry(sheet, &mut output, &mut answer);
+            let first = FormAnswer::from_bytes(&answer).number;
+            assert_eq!((returned, first), (number, number));
+            let returned = to_sheet1_entry(sheet, &mut output, &mut answer);
+            let first = FormAnswer::from_bytes(&answer).number;
+            assert_eq!((returned, first), (number_back, number_back));
+        }
     }
 }

@@ -239,6 +239,7 @@ int main(void)
     check_record();
     check_writing();
     check_reading();
+    check_turning();
     if (failures > 0)
         return 1;
     printf("c: all %u checks hold\n", checks);

@@ -89,12 +89,13 @@ void check_nulls(const struct entry *entry, const char *input, struct wanted emp
 #define MOST_BYTES 70
 void check_bytes(const struct entry *entry, uint32_t other);
 
-/* The checks of each entry, and of the record that the last two share. */
+/* The checks of each entry, or of two that go together, and of the record that some share. */
 void check_run(void);
 void check_csv(void);
 void check_blocks(void);
 void check_record(void);
 void check_writing(void);
 void check_reading(void);
+void check_turning(void);
 
 #endif

@@ -1,6 +1,6 @@
 /*
- * What the tests of pavebox_write and pavebox_read share: records made place by place, and their
- * sheets.
+ * What the tests of the entries that take sheets and records share: records made place by place, and
+ * their sheets.
  */
 #ifndef RECORD_H
 #define RECORD_H

@@ -13,9 +13,9 @@ use Rattle.model_blocks.specs.{Block.Block, Block.places, Block.commandsOf, Dia
 use Rattle.model_blocks.specs.{Dialect.writeBlocks, Dialect.blocksEntry, Claims.mostBlockBytes, Claims.leastHead, Claims.leastTail, Claims.leastJob, Claims.OfALine, Agreement.Agrees}
 use Rattle.model_blocks.proofs.{Sheet.whole-or-nothing, Sheet.blocks-in-smallest, Cases.when-refused, Cases.when-many, Cases.when-short, Cases.when-fits, Refusals.only-these, Read.text-agrees, Examples.opened}
 use Rattle.model_blocks.proofs.Refusals as Refusals
-use Rattle.pavebox.specs.{Entry.Leaves, Texts.ThreeNumbers}
+use Rattle.model_entry.specs.{Entry.Leaves, Texts.ThreeNumbers}
 use Rattle.claims.specs.{Blocks.BlocksCalled, Blocks.programLines, Blocks.BlocksWrittenHolds, Blocks.BlocksTelling}
-use Rattle.pavebox.proofs.Texts.{text-answers, text-memory}
+use Rattle.model_entry.proofs.Texts.{text-answers, text-memory}
 
 module _ {s : List ℕ} {K : ℕ} {o a : List ℕ} {r : ℕ} {o′ a′ : List ℕ} (c : BlocksCalled s K o a r o′ a′) where
   met : Leaves (textEntry o a (writeBlocks K s o)) r o′ a′

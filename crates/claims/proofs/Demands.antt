@@ -19,7 +19,7 @@ use Rattle.model.proofs.{Placed.front-length}
 use Rattle.model_run.proofs.{Counted.counts-of, Examples.opened, Secrecy.secrecy, Witness.telling as witness, Honest.honest-sheet-loses-nothing, Owners.telling-b, Owners.telling-both, Owners.clear-a}
 use Rattle.model_run.proofs.{HonestExamples.openedPlain, HonestExamples.honest-example}
 use Rattle.whole_sheet.proofs.Laws.{accepted-left, refused-left}
-use Rattle.pavebox.proofs.Laws.{entered-sized}
+use Rattle.model_entry.proofs.Laws.{entered-sized}
 use Rattle.claims.specs.Demands.{Called, Demand2, Demand1Holds, Demand2Holds, SeventhHolds, fifth, HonestSendsHolds, Demand3Holds, answerLent, CalledOn, Telling}
 use Rattle.claims.specs.Demands.{lentHonest, HonestTelling, OwnersTelling}
 

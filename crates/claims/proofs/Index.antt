@@ -28,11 +28,18 @@ use Rattle.model_sheet.proofs.Short as SheetShort
 use Rattle.model_sheet.proofs.Examples as SheetExamples
 use Rattle.model_record.proofs.Record as RecordText
 use Rattle.model_record.proofs.Examples as RecordExamples
+use Rattle.model_change.proofs.Change as ChangeLaws
+use Rattle.model_change.proofs.{Told.refusals-told}
+use Rattle.model_forms.proofs.Forms as FormJobs
+use Rattle.model_forms.proofs.Sheets as FormSheets
+use Rattle.model_forms.proofs.Examples as FormExamples
 use Rattle.claims.proofs.Demands as Demands
 use Rattle.claims.proofs.Log as Log
 use Rattle.claims.proofs.Blocks as Blocks
 use Rattle.claims.proofs.Record as Record
-use Rattle.claims.specs.Index.{Document01, Note1, Note2, Note3, Note4, Note5, Note6, Note7, Note8, Index}
+use Rattle.claims.proofs.Change as Change
+use Rattle.claims.proofs.Forms as Forms
+use Rattle.claims.specs.Index.{Document01, Note1, Note2, Note3, Note4, Note5, Note6, Note7, Note8, Note9, Index}
 
 pub document-01 : Document01
 document-01 =
@@ -191,6 +198,31 @@ note-8 =
       tellingBoth = Owners.telling-both;
     }
 
+pub note-9 : Note9
+note-9 =
+    record {
+      calls = Forms.form-turned;
+      telling = Forms.forms-telling;
+      changes = Change.sheet-changed;
+      refusedAlone = Change.refused-alone;
+      changedRuns = Change.changed-runs;
+      alwaysChanges = ChangeLaws.always-changes;
+      alwaysRunsSame = ChangeLaws.always-runs-same;
+      refusals = refusals-told;
+      keeps = FormJobs.always-keeps;
+      jobsRun = FormJobs.jobs-run-same;
+      jobsBack = FormJobs.jobs-turn-back;
+      gets = FormJobs.always-gets;
+      turns = FormJobs.always-turns;
+      unsayable = FormJobs.unsayable;
+      runs = FormSheets.runs-same;
+      back = FormSheets.turns-back;
+      sized = FormSheets.always-sized;
+      answers = FormSheets.always-answers;
+      lines = FormSheets.by-lines;
+      examples = FormExamples.examples;
+    }
+
 pub index : Index
 index =
     record {
@@ -203,4 +235,5 @@ index =
       note6 = note-6;
       note7 = note-7;
       note8 = note-8;
+      note9 = note-9;
     }

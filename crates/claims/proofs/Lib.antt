@@ -4,3 +4,5 @@ pub mod Demands
 pub mod Log
 pub mod Blocks
 pub mod Record
+pub mod Change
+pub mod Forms

@@ -13,9 +13,9 @@ use Rattle.model_text.specs.Text.{messageLines}
 use Rattle.model_log.specs.Log.{Logged, messages, refused, readLog, draft, writeLog, logEntry}
 use Rattle.model_log.specs.Claims.{mostLogBytes}
 use Rattle.model_log.proofs.{Lines.whole-or-nothing, Lines.log-short, Refusals.only-these, Examples.opened}
-use Rattle.pavebox.specs.{Entry.Leaves, Texts.ThreeNumbers}
+use Rattle.model_entry.specs.{Entry.Leaves, Texts.ThreeNumbers}
 use Rattle.claims.specs.{Log.LogCalled, Log.LogWrittenHolds, Log.LogTelling}
-use Rattle.pavebox.proofs.Texts.{text-answers, text-memory}
+use Rattle.model_entry.proofs.Texts.{text-answers, text-memory}
 
 -- ---- A call, by the definition of the entry
 

@@ -19,7 +19,7 @@ use Rattle.model_record.proofs.{Places.shaped-over, Record.written-then-read, R
 use Rattle.whole_record.proofs.Laws.{record-refused, record-lacks, record-fits}
 use Rattle.claims.specs.Record.{TwoNumbers, WriteCalled, SheetWrittenHolds, ReadCalled, RecordReadHolds, SavedThenOpened, OpenedThenSaved, SavedRuns}
 use Rattle.claims.specs.Record.{RecordTelling}
-use Rattle.pavebox.proofs.{Laws.entered-sized, Laws.read-sized}
+use Rattle.model_entry.proofs.{Laws.entered-sized, Laws.read-sized}
 use Rattle.claims.proofs.{Demands.demand-2}
 
 -- ---- Saving

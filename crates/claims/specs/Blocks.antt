@@ -9,7 +9,7 @@ use Rattle.model_text.specs.{Text.commandLines, Pasted.withCommands}
 use Rattle.model_blocks.specs.{Block.Block, Block.places, Block.commandsOf, Dialect.tree, Dialect.refused, Dialect.readBlocks, Dialect.blocksEntry}
 use Rattle.model_blocks.specs.Agreement.{Agrees}
 use Rattle.model_blocks.specs.Claims.{mostBlockBytes, leastHead, leastTail, leastJob}
-use Rattle.pavebox.specs.{Entry.BlocksAnswered, Texts.ThreeNumbers}
+use Rattle.model_entry.specs.{Entry.BlocksAnswered, Texts.ThreeNumbers}
 
 -- A call with an answer memory of 12 bytes
 pub record BlocksCalled (text : List ℕ) (keys : ℕ) (output answer : List ℕ) (returned : ℕ) (output′ answer′ : List ℕ) : Type 0 where

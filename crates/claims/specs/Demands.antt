@@ -12,7 +12,7 @@ use Rattle.model_run.specs.{Honest.HoldsLines}
 use Rattle.model_run.specs.HonestExamples.{job, doubles, linesHonest}
 use Rattle.model.specs.Sheet as Sheet
 use Rattle.model.specs.declared.{Owner.the-variants.A, Owner.the-variants.B, Answer.the-variants.Refused}
-use Rattle.pavebox.specs.Entry.{Answered}
+use Rattle.model_entry.specs.Entry.{Answered}
 
 -- A call with an answer memory of 28 bytes
 pub record Called (sheet output answer : List ℕ) (returned : ℕ) (output′ answer′ : List ℕ) : Type 0 where

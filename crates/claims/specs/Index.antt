@@ -29,10 +29,15 @@ use Rattle.model_sheet.specs.Claims as SheetClaims
 use Rattle.model_sheet.specs.Examples as SheetExamples
 use Rattle.model_record.specs.Claims as RecordClaims
 use Rattle.model_record.specs.Examples as RecordExamples
+use Rattle.model_change.specs.Claims as ChangeClaims
+use Rattle.model_forms.specs.Claims as FormClaims
+use Rattle.model_forms.specs.Examples as FormExamples
 use Rattle.claims.specs.Demands.{Demand1Holds, Demand2Holds, Demand3Holds, SeventhHolds, HonestSendsHolds, Telling, HonestTelling, OwnersTelling}
 use Rattle.claims.specs.Log.{LogWrittenHolds, LogTelling}
 use Rattle.claims.specs.Blocks.{BlocksWrittenHolds, BlocksTelling}
 use Rattle.claims.specs.Record.{SheetWrittenHolds, RecordReadHolds, SavedThenOpened, OpenedThenSaved, SavedRuns, RecordTelling}
+use Rattle.claims.specs.Change.{SheetChangedHolds, RefusedAlone, ChangedRuns}
+use Rattle.claims.specs.Forms.{FormTurnedHolds, FormsTelling}
 
 -- ---- Document 01
 
@@ -237,6 +242,39 @@ pub record Note8 : Type 0 where
   pub tellingB : Owners.TellingB
   pub tellingBoth : Owners.TellingBoth
 
+-- ---- Note 9, "Old sheets to new and back"
+
+pub record Note9 : Type 0 where
+  -- what each call of `pavebox_to_sheet2` and `pavebox_to_sheet1` returns and leaves; calls of which this speaks
+  pub calls : FormTurnedHolds
+  pub telling : FormsTelling
+  -- the same of every entry that makes a sheet of a sheet: what is refused, and what is written; that but for too
+  -- little memory a refusal is the sheet's alone; that what was written runs as the sheet does, where a job does
+  pub changes : SheetChangedHolds
+  pub refusedAlone : RefusedAlone
+  pub changedRuns : ChangedRuns
+  -- over sheets as texts; and the numbers with which a sheet may be refused on reading
+  pub alwaysChanges : ChangeClaims.AlwaysChanges
+  pub alwaysRunsSame : ChangeClaims.AlwaysRunsSame
+  pub refusals : ChangeClaims.RefusalsTold
+  -- over jobs: a sound one stays sound, runs as it did and comes back; exactly which get 48 and 47; every one of the
+  -- first form converts; one of the second goes back exactly if the first form can say it
+  pub keeps : FormClaims.AlwaysKeeps
+  pub jobsRun : FormClaims.JobsRunSame
+  pub jobsBack : FormClaims.JobsTurnBack
+  pub gets : FormClaims.AlwaysGets
+  pub turns : FormClaims.AlwaysTurns
+  pub unsayable : FormClaims.Unsayable
+  -- over sheets as texts: both forms run to the same bytes and numbers; back to the first bytes; the bytes, and the
+  -- memory that is enough; exactly which sheets get 48, 47 and 49; what becomes of each line
+  pub runs : FormClaims.RunsSame
+  pub back : FormClaims.TurnsBack
+  pub sized : FormClaims.AlwaysSized
+  pub answers : FormClaims.AlwaysAnswers
+  pub lines : FormClaims.LineByLine
+  -- sheets turned and refused
+  pub examples : FormExamples.Examples
+
 -- ---- All of them
 
 pub record Index : Type 0 where
@@ -249,3 +287,4 @@ pub record Index : Type 0 where
   pub note6 : Note6
   pub note7 : Note7
   pub note8 : Note8
+  pub note9 : Note9

@@ -5,3 +5,5 @@ pub mod Demands
 pub mod Log
 pub mod Blocks
 pub mod Record
+pub mod Change
+pub mod Forms

@@ -8,7 +8,7 @@ use Rattle.model.specs.{Text.bytes, Answer.bytesFor, Written.textNumberCount}
 use Rattle.model.specs.declared.Entry.{Entry}
 use Rattle.model_text.specs.Text.{messageLines}
 use Rattle.model_log.specs.{Log.messages, Log.refused, Log.readLog, Log.logEntry, Claims.mostLogBytes}
-use Rattle.pavebox.specs.{Entry.LogAnswered, Texts.ThreeNumbers}
+use Rattle.model_entry.specs.{Entry.LogAnswered, Texts.ThreeNumbers}
 
 -- A call with an answer memory of 12 bytes
 pub record LogCalled (log output answer : List ℕ) (returned : ℕ) (output′ answer′ : List ℕ) : Type 0 where

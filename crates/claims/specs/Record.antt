@@ -11,7 +11,7 @@ use Rattle.model_sheet.specs.Claims.{longestSheet}
 use Rattle.model_record.specs.declared.JobRecord.{JobRecord}
 use Rattle.model_record.specs.{Record.said, Record.passes, Record.jobIn, Record.textOf, Record.recordOver, Claims.Shaped, Claims.HasSheet}
 use Rattle.model_record.specs.{Entry.recordNumberCount, Entry.writeEntry, Entry.readEntry, Examples.zeros, Examples.textA, Examples.recordA}
-use Rattle.pavebox.specs.{Entry.Leaves, Entry.WriteAnswered, Entry.ReadAnswered}
+use Rattle.model_entry.specs.{Entry.Leaves, Entry.WriteAnswered, Entry.ReadAnswered}
 use Rattle.claims.specs.{Demands.Called}
 
 -- the two numbers of an answer, of which the first is returned

@@ -18,9 +18,9 @@ use Rattle.model_record.specs.{Record.keyPlaces, Claims.Shaped}
 use Rattle.model_record.proofs.MessageRecord as M
 use Rattle.model_record.proofs.JobRecord as J
 use Rattle.model_record.proofs.JobRecord.Laws as J′
-use Rattle.pavebox.specs.declared.Opening.{Opening}
-use Rattle.pavebox.proofs.Opening as S
-use Rattle.pavebox.proofs.Opening.Laws as S′
+use Rattle.enter_record.specs.declared.Opening.{Opening}
+use Rattle.enter_record.proofs.Opening as S
+use Rattle.enter_record.proofs.Opening.Laws as S′
 use Rattle.lent.proofs.Lent.{Data, Related}
 
 abbrev pub job : Data

@@ -1,4 +1,2 @@
--- The laws by which the entries meet their contracts.
-pub mod Laws
+-- The record that a C program lends.
 pub mod LentJob
-pub mod Texts

@@ -5,7 +5,7 @@ use mathlib.Core.Bool.{true, false, false≢true}
 use mathlib.Core.List.{List}
 use native.Mathlib.Omega.{arith}
 use lib.ListN.{length}
-use Rattle.model.specs.{Job.Job, Stored.Stored, Stored.jobOf, Accepted.Sound, Sheet.Reading, Sheet.accepted, Sheet.refused, Sheet.readSheet, Written.written, Written.untouched}
+use Rattle.model.specs.{Job.Job, Stored.Stored, Stored.jobOf, Accepted.Sound, Sheet.Reading, Sheet.accepted, Sheet.refused, Sheet.readSheet, Written.written, Written.untouched, Written.write}
 use Rattle.model.specs.Written as Written
 use Rattle.model.specs.Placed.{front}
 use Rattle.model.proofs.Written.{write-refused, write-fits, write-short}
@@ -17,8 +17,6 @@ use Rattle.model_record.specs.{Record.passes, Record.textOf, Record.recordOver,
 use Rattle.model_record.proofs.{Sound.passes-sound, Record.read-then-written}
 use Rattle.read_record.specs.Read.{Takes}
 use Rattle.read_record.specs.declared.Taken.{Taken}
-use Rattle.write_text.specs.Put.{Put}
-use Rattle.write_text.proofs.Laws.{put-written}
 use Rattle.whole_record.specs.Opened.{opened, resaved}
 use Rattle.whole_record.specs.declared.Opened.{Opened}
 
@@ -38,10 +36,9 @@ module _ (r : JobRecord) (m : List ℕ) where
     unfolding writeRecord draft
     record-fits h = rw e (write-fits 55 m (textOf r) h)
 
-    pub record-written : {m′ : List ℕ} {n : ℕ} → Put m 0 (textOf r) m′ n → length (textOf r) ≤ length m
-        → writeRecord r m ≡ written (record { number = 0; line = 0; bytes = length (textOf r) }) m′
+    pub record-saved : writeRecord r m ≡ write 55 m (Written.text (textOf r))
     unfolding writeRecord draft
-    record-written p fits = rw e (put-written 55 p fits)
+    record-saved = rw e
 
 -- a record that was taken: its job is sound and stored, and its text is the job's, which is short
 pub record Saved (r : JobRecord) (t : Taken) : Type 0 where

@@ -12,23 +12,13 @@ use model_record::SecretRecord;
 use read_record::read_record;
 use read_sheet::Status;
 use read_sheet::read_sheet;
+use save_job::refuse;
+use save_job::save_job;
 use write_record::record_over;
-use write_sheet::fits;
-use write_sheet::put_sheet;
 ghost use mathlib.Core.Path.{_≡_};
 ghost use Rattle.model.specs.{Written.written, Sheet.readSheet};
 ghost use Rattle.model_record.specs.{Claims.Shaped, Entry.writeRecord};
 ghost use Rattle.whole_record.specs.Opened.{opened, resaved};
-
-fn refuse(number: u32) -> TextAnswer
-    ensures { λ r. ⌜ r ≡ record { number = number; line = 0; bytes = 0 } ⌝ }
-{
-    TextAnswer {
-        number,
-        line: 0,
-        bytes: 0,
-    }
-}
 
 // Writes the sheet of a record into the output memory, or refuses and writes nothing. Any record at all is taken.
 pub fn save_record(r: JobRecord, output: &mut [u8]) -> TextAnswer
@@ -39,15 +29,7 @@ pub fn save_record(r: JobRecord, output: &mut [u8]) -> TextAnswer
         return refuse(54);
     }
     let job = taken.job;
-    if !fits(job, output.len()) {
-        return refuse(55);
-    }
-    let n = put_sheet(output, job);
-    TextAnswer {
-        number: 0,
-        line: 0,
-        bytes: n as u32,
-    }
+    save_job(job, 55, output)
 }
 
 // What opening a sheet gives: whether it was read, 0 or a refusal's number, the line that it names, and the record.

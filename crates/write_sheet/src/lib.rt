@@ -5,7 +5,6 @@ use model::Key;
 use model::KeySlot;
 use model::LETTER_CAPACITY;
 use model::StoredJob;
-use model_sheet::LONGEST_SHEET;
 use model_sheet::letter_of;
 use write_commands::put_commands;
 use write_head::put_head;
@@ -13,11 +12,10 @@ use write_head::put_secret;
 use write_messages::put_messages;
 use write_text::put_byte;
 use write_text::put_word;
-ghost use mathlib.Core.Path.{_≡_};
 ghost use mathlib.Core.List.{map};
 ghost use Prim.Native.Nat.{_≤_};
-ghost use lib.{Dec.leb, ListN.take, ListN.length};
-ghost use Rattle.model.specs.{Stored.keyCapacity, Stored.letterCapacity, Stored.keysIn, Stored.levelOf, Stored.Stored, Stored.jobOf, Accepted.Sound};
+ghost use lib.ListN.{take};
+ghost use Rattle.model.specs.{Stored.keyCapacity, Stored.letterCapacity, Stored.keysIn, Stored.levelOf, Stored.jobOf};
 ghost use Rattle.model_sheet.specs.Sheet.{secretLines, letterOf, turnsLines, sheetText};
 ghost use Rattle.write_text.specs.Put.{Put, Room};
 ghost use Rattle.write_sheet.specs.Sheet.{HasRoom};
@@ -102,17 +100,4 @@ pub fn put_sheet(out: &mut [u8], job: StoredJob) -> usize
     let behind_program = put_commands(out, behind_secrets, commands, job.command_count);
     let behind_messages = put_messages(out, behind_program, messages, job.message_count, keys);
     put_turns(out, behind_messages, form, turns, job.turn_count)
-}
-
-// Whether so many bytes are enough for the sheet. As many as the longest has are enough for every one, so that only for fewer it is counted, in no memory at all.
-pub fn fits(job: StoredJob, room: usize) -> bool
-    requires { ⌜ Sound (jobOf job) × Stored job ⌝ }
-    ensures { λ r. ⌜ r ≡ leb (length (sheetText (jobOf job))) room ⌝ }
-{
-    if LONGEST_SHEET <= room {
-        return true;
-    }
-    let mut nowhere = [0u8; 0];
-    let n = put_sheet(&mut nowhere, job);
-    n <= room
 }

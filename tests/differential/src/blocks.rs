@@ -21,6 +21,7 @@ pub static BLOCKS: Part = Part {
         archive: pavebox::blocks_entry,
         model: c_entry,
         input: "program",
+        number: "K",
         record: Record::None,
     },
     answer_bytes: BLOCKS_ANSWER_BYTES,
@@ -130,7 +131,7 @@ fn corners() -> Vec<Corner> {
     let corners = reference::corners::blocks::corners();
     let corner = |corner: reference::corners::blocks::Corner| Corner {
         lent: corner.lent,
-        keys: Some(corner.keys),
+        number: Some(corner.keys),
         input: corner.text,
         text: [corner.lines, answer_line(corner.numbers)].concat(),
     };
@@ -138,12 +139,12 @@ fn corners() -> Vec<Corner> {
 }
 
 /// The lines of a program that gives some have room in the memory.
-fn texts() -> Texts {
-    Texts {
+fn texts() -> Vec<Texts> {
+    vec![Texts {
         lent: 150,
-        keys: Some(2),
+        number: Some(2),
         inputs: reference::corners::bytes::programs(),
-    }
+    }]
 }
 
 fn program(text: &[u8], keys: Option<u32>) -> Program {
@@ -176,7 +177,7 @@ fn random_program(rng: &mut Rng) -> Program {
 
 fn random(rng: &mut Rng, _place: u64, tally: &mut Tally) -> Result<(), Difference> {
     let program = random_program(rng);
-    let left = BLOCKS.compare_with_keys(rng, &program.text, Some(program.keys))?;
+    let left = BLOCKS.compare_with_number(rng, &program.text, Some(program.keys))?;
     tally.count_random(left.returned);
     let Some(numbers) = numbers(&left) else {
         return Ok(());
@@ -191,7 +192,7 @@ fn random(rng: &mut Rng, _place: u64, tally: &mut Tally) -> Result<(), Differenc
     held.map_err(|message| {
         let case = BLOCKS.case(rng, &program.text, left.output().len(), BLOCKS_ANSWER_BYTES);
         let sheet = run.sheet.escape_ascii();
-        let case = case.with_keys(Some(program.keys));
+        let case = case.with_number(Some(program.keys));
         case.differs(format!("{message}\nits lines in a sheet \"{sheet}\""))
     })?;
     run.count(left.output().len() == lines.len(), tally);

@@ -6,7 +6,8 @@ use reference::record::{listing, unpack};
 use std::fmt;
 
 /// A function on three lent memories: bytes that it only reads, the output memory and the answer
-/// memory. The number beside the first is the K of `pavebox_blocks`; other entries have none.
+/// memory. The number beside the first is the K of `pavebox_blocks`, or says which of two entries is
+/// called; others have none.
 type Call = fn(&[u8], u32, &mut [u8], &mut [u8]) -> u32;
 
 /// A function of the archive, and the model's.
@@ -15,6 +16,8 @@ pub struct Entry {
     pub model: Call,
     /// What it reads.
     pub input: &'static str,
+    /// What the number beside that is, if there is one.
+    pub number: &'static str,
     pub record: Record,
 }
 
@@ -41,8 +44,8 @@ impl Record {
 pub struct Case {
     entry: &'static Entry,
     input: Lent,
-    /// The K that is given, if the entry is given one.
-    keys: Option<u32>,
+    /// The number that is given, if the entry is given one.
+    number: Option<u32>,
     output: Lent,
     answer: Lent,
 }
@@ -60,15 +63,15 @@ impl Case {
         Case {
             entry,
             input: Lent::holding(rng, input, entry.record.step(Record::Input)),
-            keys: None,
+            number: None,
             output: Lent::filled(rng, lent, entry.record.step(Record::Output)),
             answer: Lent::filled(rng, answer_length, 1),
         }
     }
 
-    /// The same with this K.
-    pub fn with_keys(self, keys: Option<u32>) -> Case {
-        Case { keys, ..self }
+    /// The same with this number.
+    pub fn with_number(self, number: Option<u32>) -> Case {
+        Case { number, ..self }
     }
 
     /// The same memories with other bytes to be read.
@@ -80,7 +83,7 @@ impl Case {
                 input,
                 self.entry.record.step(Record::Input),
             ),
-            keys: self.keys,
+            number: self.number,
             output: self.output.clone(),
             answer: self.answer.clone(),
         }
@@ -101,22 +104,28 @@ impl Case {
         self.output.bytes()
     }
 
-    /// Calls a function on these bytes, which may be a copy of the case's own, and its K.
+    /// Calls a function on these bytes, which may be a copy of the case's own, and its number.
     fn call(&self, call: Call, input: &Lent, output: &mut Lent, answer: &mut Lent) -> u32 {
-        let keys = self.keys.unwrap_or(0);
-        call(input.bytes(), keys, output.bytes_mut(), answer.bytes_mut())
+        let number = self.number.unwrap_or(0);
+        call(
+            input.bytes(),
+            number,
+            output.bytes_mut(),
+            answer.bytes_mut(),
+        )
     }
 
     pub fn differs(&self, message: String) -> Difference {
-        let keys = self.keys.map(|keys| format!("K {keys}, "));
-        let (name, keys) = (self.entry.input, keys.unwrap_or_default());
+        let name = self.entry.input;
+        let beside = |number: u32| format!("{} {number}, ", self.entry.number);
+        let number = self.number.map(beside).unwrap_or_default();
         let input = match self.entry.record {
             Record::Input => shown_record(self.input()),
             _ => format!("\"{}\"", shown(self.input())),
         };
         Difference {
             message,
-            input: format!("{keys}{name} {input}"),
+            input: format!("{number}{name} {input}"),
             lent: self.output.bytes().len(),
             answer_length: self.answer.bytes().len(),
         }

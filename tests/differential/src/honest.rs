@@ -5,7 +5,7 @@
 //! beside them.
 
 use crate::compare::{call_archive, compare_output, compare_with_model, Case, Difference, Left};
-use crate::part::{Corner, Part, Texts};
+use crate::part::{Corner, Part};
 use crate::sheets::{corner, numbers, printed, RUN, WRONG_LENGTHS};
 use crate::tally::{Tally, Telling, Wanted};
 use pavebox::ANSWER_BYTES;
@@ -23,7 +23,7 @@ pub static HONEST: Part = Part {
     memory_length: |rng, sheet, _| memory_length(rng, sheet),
     corners,
     // The part `sheets` has them.
-    texts: Texts::default,
+    texts: Vec::new,
     text: printed,
     random,
     // Every ending; all sheets are accepted.

@@ -14,6 +14,7 @@ pub static LOGS: Part = Part {
         archive: |export, _, output, answer| pavebox::csv_entry(export, output, answer),
         model: |export, _, output, answer| c_entry(export, output, answer),
         input: "export",
+        number: "",
         record: Record::None,
     },
     answer_bytes: CSV_ANSWER_BYTES,
@@ -41,7 +42,7 @@ fn corners() -> Vec<Corner> {
     let corners = reference::corners::log::corners();
     let corner = |corner: reference::corners::log::Corner| Corner {
         lent: corner.lent,
-        keys: None,
+        number: None,
         input: corner.export,
         text: [corner.lines, answer_line(corner.numbers)].concat(),
     };
@@ -49,12 +50,12 @@ fn corners() -> Vec<Corner> {
 }
 
 /// The lines of an export that gives some have room in the memory.
-fn texts() -> Texts {
-    Texts {
+fn texts() -> Vec<Texts> {
+    vec![Texts {
         lent: 60,
-        keys: None,
+        number: None,
         inputs: reference::corners::bytes::exports(),
-    }
+    }]
 }
 
 /// The three numbers, if the answer memory has them.

@@ -3,15 +3,17 @@
 //! PART is `sheets`, which are run, `owners`, sheets with two owners of secrets, `honest`, sheets
 //! whose runs are held to plain runs too, `logs`, exports whose lines are made, `blocks`, programs
 //! with blocks whose lines are made and held to what such programs do, `records`, which are written
-//! as sheets, read again and run, or `opened`, sheets that are read into records and written again;
-//! without it, each of them in turn. First come the hand-written corners, then texts with every
-//! byte and with faults at every place, then COUNT random cases (20,000 by default). SEED is taken
-//! from the clock by default, and is always printed. Of each call every byte of the three memories
-//! is compared, and the bytes around them. Exit status 1: a difference, or random cases that show
-//! too little, as fewer than some thousand may.
+//! as sheets, read again and run, `opened`, sheets that are read into records and written again, or
+//! `forms`, sheets that are turned into the other form, turned back and run; without it, each of
+//! them in turn. First come the hand-written corners, then texts with every byte and with faults at
+//! every place, then COUNT random cases (20,000 by default). SEED is taken from the clock by
+//! default, and is always printed. Of each call every byte of the three memories is compared, and
+//! the bytes around them. Exit status 1: a difference, or random cases that show too little, as
+//! fewer than some thousand may.
 
 mod blocks;
 mod compare;
+mod forms;
 mod honest;
 mod lent;
 mod logs;
@@ -27,7 +29,7 @@ use part::Part;
 use std::process::ExitCode;
 use std::time::{SystemTime, UNIX_EPOCH};
 
-static PARTS: [&Part; 7] = [
+static PARTS: [&Part; 8] = [
     &sheets::SHEETS,
     &owners::OWNERS,
     &honest::HONEST,
@@ -35,6 +37,7 @@ static PARTS: [&Part; 7] = [
     &blocks::BLOCKS,
     &records::RECORDS,
     &opened::OPENED,
+    &forms::FORMS,
 ];
 const DEFAULT_COUNT: u64 = 20_000;
 
@@ -44,7 +47,7 @@ fn main() -> ExitCode {
     let (parts, words) = chosen(&words);
     let Some((count, seed)) = arguments(words) else {
         eprintln!(
-            "usage: differential [sheets|owners|honest|logs|blocks|records|opened] [COUNT [SEED]]"
+            "usage: differential [sheets|owners|honest|logs|blocks|records|opened|forms] [COUNT [SEED]]"
         );
         return ExitCode::from(2);
     };
@@ -136,7 +139,7 @@ mod tests {
     fn a_first_word_chooses_a_part() {
         let names = |parts: &[&Part]| -> Vec<&str> { parts.iter().map(|part| part.name).collect() };
         let all = [
-            "sheets", "owners", "honest", "logs", "blocks", "records", "opened",
+            "sheets", "owners", "honest", "logs", "blocks", "records", "opened", "forms",
         ];
         for (words, parts, rest) in [
             (&["logs", "7"][..], &["logs"][..], &["7"][..]),
@@ -146,6 +149,7 @@ mod tests {
             (&["blocks"], &["blocks"], &[]),
             (&["records"], &["records"], &[]),
             (&["opened", "7"], &["opened"], &["7"]),
+            (&["forms", "7"], &["forms"], &["7"]),
             (&["7", "8"], &all, &["7", "8"]),
             (&[], &all, &[]),
         ] {

@@ -20,6 +20,7 @@ pub static OPENED: Part = Part {
         archive: |sheet, _, record, answer| pavebox::read_entry(sheet, job_in_mut(record), answer),
         model: |sheet, _, record, answer| read_entry(sheet, record, answer),
         input: "sheet",
+        number: "",
         record: Memory::Output,
     },
     answer_bytes: READ_ANSWER_BYTES,
@@ -111,7 +112,7 @@ static AT_THE_LIMITS: Telling = Telling {
 fn corners() -> Vec<Corner> {
     let corner = |sheet: Vec<u8>, numbers: [u32; 2], listing: String| Corner {
         lent: RECORD_BYTES,
-        keys: None,
+        number: None,
         input: sheet,
         text: [answer_line(numbers), listing.into_bytes()].concat(),
     };
@@ -142,12 +143,12 @@ fn refusal_in(printed: &[u8]) -> [u32; 2] {
     }
 }
 
-fn texts() -> Texts {
-    Texts {
+fn texts() -> Vec<Texts> {
+    vec![Texts {
         lent: RECORD_BYTES,
-        keys: None,
+        number: None,
         inputs: reference::corners::bytes::sheets(),
-    }
+    }]
 }
 
 /// The two numbers, if the answer memory has them.

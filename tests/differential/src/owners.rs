@@ -4,7 +4,7 @@
 
 use crate::compare::{Difference, Left};
 use crate::pairs::{different_places, random_pair, Pair};
-use crate::part::{Corner, Part, Texts};
+use crate::part::{Corner, Part};
 use crate::sheets::{corner, numbers, printed, random_sheet, sends_else, RUN, WRONG_LENGTHS};
 use crate::tally::{Tally, Telling, Wanted};
 use pavebox::ANSWER_BYTES;
@@ -21,7 +21,7 @@ pub static OWNERS: Part = Part {
     memory_length: |rng, sheet, _| memory_length(rng, sheet),
     corners,
     // The part `sheets` has them.
-    texts: Texts::default,
+    texts: Vec::new,
     text: printed,
     random,
     // Every first number of document 01, and that of the note.
@@ -299,7 +299,8 @@ fn all_of(owner: Owner, job: &Job) -> Job {
     job
 }
 
-fn with_turns_exchanged(job: &Job) -> Job {
+/// The job with A's turns B's, and B's turns A's.
+pub fn with_turns_exchanged(job: &Job) -> Job {
     let mut job = job.clone();
     for level in &mut job.turns {
         *level = match *level {

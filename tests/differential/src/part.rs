@@ -16,8 +16,8 @@ pub struct Part {
     /// A length for the output memory.
     pub memory_length: fn(&mut Rng, &[u8], Option<u32>) -> usize,
     pub corners: fn() -> Vec<Corner>,
-    /// The texts of Note 6.
-    pub texts: fn() -> Texts,
+    /// The texts of Note 6, and such with faults at every place.
+    pub texts: fn() -> Vec<Texts>,
     /// What a call has left, as the text of a corner has it.
     pub text: fn(&Left) -> Vec<u8>,
     /// Compares one random case; its place among them is given.
@@ -28,19 +28,18 @@ pub struct Part {
 /// A hand-written case.
 pub struct Corner {
     pub lent: usize,
-    /// The K that is given, if the entry is given one.
-    pub keys: Option<u32>,
+    /// The number that is given, if the entry is given one.
+    pub number: Option<u32>,
     pub input: Vec<u8>,
     pub text: Vec<u8>,
 }
 
 /// Inputs without an answer beside them: what each gets, the model says.
-#[derive(Default)]
 pub struct Texts {
     /// The bytes lent to each.
     pub lent: usize,
-    /// The K that is given with each, if the entry is given one.
-    pub keys: Option<u32>,
+    /// The number that is given with each, if the entry is given one.
+    pub number: Option<u32>,
     pub inputs: Vec<Vec<u8>>,
 }
 
@@ -71,7 +70,7 @@ impl Part {
         tally: &mut Tally,
     ) -> Result<(), Difference> {
         let case = self.case(rng, &corner.input, corner.lent, self.answer_bytes);
-        let case = case.with_keys(corner.keys);
+        let case = case.with_number(corner.number);
         let left = compare(&case)?;
         let found = (self.text)(&left);
         if found != corner.text {
@@ -79,11 +78,11 @@ impl Part {
             return Err(case.differs(format!("the corner has {wanted}, the archive {found}")));
         }
         tally.count_corner(left.returned);
-        let again = self.compare_with_keys(rng, &corner.input, corner.keys)?;
+        let again = self.compare_with_number(rng, &corner.input, corner.number)?;
         tally.count_corner(again.returned);
         for &length in self.wrong_lengths {
             let case = self.case(rng, &corner.input, corner.lent, length);
-            let case = case.with_keys(corner.keys);
+            let case = case.with_number(corner.number);
             tally.count_corner(compare(&case)?.returned);
         }
         Ok(())
@@ -93,34 +92,35 @@ impl Part {
     /// many texts there are.
     fn run_texts(&'static self, seed: u64, tally: &mut Tally) -> Result<(), Difference> {
         let mut rng = Rng::new(seed);
-        let texts = (self.texts)();
-        for input in &texts.inputs {
-            let case = self.case(&mut rng, input, texts.lent, self.answer_bytes);
-            let left = compare(&case.with_keys(texts.keys))?;
-            tally.count_corner(left.returned);
+        for texts in (self.texts)() {
+            for input in &texts.inputs {
+                let case = self.case(&mut rng, input, texts.lent, self.answer_bytes);
+                let left = compare(&case.with_number(texts.number))?;
+                tally.count_corner(left.returned);
+            }
         }
         Ok(())
     }
 
     /// These bytes with random lengths of memory.
     pub fn compare_once(&'static self, rng: &mut Rng, input: &[u8]) -> Result<Left, Difference> {
-        self.compare_with_keys(rng, input, None)
+        self.compare_with_number(rng, input, None)
     }
 
-    /// The same with this K, if the entry is given one.
-    pub fn compare_with_keys(
+    /// The same with this number, if the entry is given one.
+    pub fn compare_with_number(
         &'static self,
         rng: &mut Rng,
         input: &[u8],
-        keys: Option<u32>,
+        number: Option<u32>,
     ) -> Result<Left, Difference> {
-        let lent = (self.memory_length)(rng, input, keys);
+        let lent = (self.memory_length)(rng, input, number);
         let length = if rng.chance(1, 16) {
             rng.pick(self.wrong_lengths)
         } else {
             self.answer_bytes
         };
-        compare(&self.case(rng, input, lent, length).with_keys(keys))
+        compare(&self.case(rng, input, lent, length).with_number(number))
     }
 
     /// A call on these bytes with memories of these lengths.

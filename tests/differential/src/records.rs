@@ -3,7 +3,7 @@
 //! cover, and run as the record's job.
 
 use crate::compare::{Difference, Entry, Left, Record as Memory};
-use crate::part::{Corner, Part, Texts};
+use crate::part::{Corner, Part};
 use crate::tally::{Tally, Telling, Wanted};
 use pavebox::{Job, WriteAnswer, BAD_RECORD, NO_ROOM_FOR_SHEET, WRITE_ANSWER_BYTES, WRITTEN};
 use reference::generate::records::{
@@ -22,6 +22,7 @@ pub static RECORDS: Part = Part {
         archive: |record, _, output, answer| pavebox::write_entry(job_in(record), output, answer),
         model: |record, _, output, answer| write_entry(record, output, answer),
         input: "record",
+        number: "",
         record: Memory::Input,
     },
     answer_bytes: WRITE_ANSWER_BYTES,
@@ -29,7 +30,7 @@ pub static RECORDS: Part = Part {
     memory_length: |rng, record, _| memory_length(rng, &unpack(record)),
     corners,
     // No text is read here; those of sheets are in the part `opened`.
-    texts: Texts::default,
+    texts: Vec::new,
     text: sheet_and_answer,
     random,
     // Every number of Note 7.
@@ -206,7 +207,7 @@ fn corners() -> Vec<Corner> {
     let corners = reference::corners::records::corners();
     let corner = |corner: reference::corners::records::Corner| Corner {
         lent: corner.lent,
-        keys: None,
+        number: None,
         input: pack(&corner.record),
         text: [corner.sheet, answer_line(corner.numbers)].concat(),
     };

@@ -40,6 +40,7 @@ pub const RUN: Entry = Entry {
     archive: |sheet, _, output, answer| pavebox::entry(sheet, output, answer),
     model: |sheet, _, output, answer| reference::c_entry(sheet, output, answer),
     input: "sheet",
+    number: "",
     record: Record::None,
 };
 
@@ -110,19 +111,19 @@ fn corners() -> Vec<Corner> {
 pub fn corner(corner: reference::corners::Corner) -> Corner {
     Corner {
         lent: corner.lent,
-        keys: None,
+        number: None,
         input: corner.sheet,
         text: corner.printed,
     }
 }
 
 /// A line of two keys, if one is sent, has room in the memory.
-fn texts() -> Texts {
-    Texts {
+fn texts() -> Vec<Texts> {
+    vec![Texts {
         lent: 40,
-        keys: None,
+        number: None,
         inputs: reference::corners::bytes::sheets(),
-    }
+    }]
 }
 
 /// The seven numbers, if the answer memory has them.

@@ -6,6 +6,7 @@ pub mod blocks;
 pub mod bytes;
 pub mod calls;
 pub mod clamps;
+pub mod forms;
 pub mod honest;
 pub mod log;
 mod owner_records;

@@ -7,6 +7,7 @@
 pub mod block_damage;
 pub mod blocks;
 mod damage;
+pub mod forms;
 pub mod honest;
 pub mod log;
 mod owners;

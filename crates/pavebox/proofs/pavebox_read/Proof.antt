@@ -35,15 +35,15 @@ use denote.Exit.{yes}
 use Rattle.model_record.specs.declared.JobRecord.{JobRecord}
 use Rattle.model_record.specs.Claims.{Shaped}
 use Rattle.model_record.proofs.JobRecord as J
-use Rattle.pavebox.specs.declared.Opening.{Opening}
-use Rattle.pavebox.specs.Entry.{ReadAnswered}
-use Rattle.pavebox.proofs.Opening as S
-use Rattle.pavebox.proofs.Opening.Laws as S′
+use Rattle.enter_record.specs.declared.Opening.{Opening}
+use Rattle.model_entry.specs.Entry.{ReadAnswered}
+use Rattle.enter_record.proofs.Opening as S
+use Rattle.enter_record.proofs.Opening.Laws as S′
 use Rattle.lent.proofs.Lent.{mach, Related, typed, spelled, mine, opened, closed, TripleOf, asks, away, concludes}
 use Rattle.pavebox.proofs.LentJob.{job, step, after-is, number-fits, in-memory}
-use Rattle.pavebox.proofs.read_into as g
-use Rattle.pavebox.proofs.read_into.Symbol as g-def
-use Rattle.pavebox.proofs.read_into.Met as g-thm
+use Rattle.enter_record.proofs.read_into as g
+use Rattle.enter_record.proofs.read_into.Symbol as g-def
+use Rattle.enter_record.proofs.read_into.Met as g-thm
 use Rattle.pavebox.proofs.pavebox_read.Key.{name as #pavebox-read}
 use Rattle.pavebox.proofs.pavebox_read as f
 use Rattle.pavebox.proofs.pavebox_read.Statement as stated
@@ -127,7 +127,7 @@ pub pavebox-read-spec : {M : Type 1} → stated.statement M
 unfolding code.routine
 pavebox-read-spec 𝓤 H 𝓜 𝓖 𝓡 =
     concludes 𝓤 H 𝓜 𝓖 𝓡 f.ended stayed (f.clauses 𝓤 H (𝓖 .A) (𝓜 .mem) (𝓡 .run)) g.ended (g.clauses 𝓤 H (𝓖 .A) (𝓜 .mem) (𝓡 .run))
-    code.env #pavebox-read code.function (code.unfolded 𝓤 H 𝓜 𝓡) g-def.name g-def.routine code.calls-pavebox·read-into (g-thm.met 𝓤 H 𝓜 𝓖 𝓡)
+    code.env #pavebox-read code.function (code.unfolded 𝓤 H 𝓜 𝓡) g-def.name g-def.routine code.calls-enter-record·read-into (g-thm.met 𝓤 H 𝓜 𝓖 𝓡)
     (goes-dropped 𝓤 H (𝓖 .A) (givenOf 𝓤 H 𝓜 𝓖) 3 (shrSliceOf (0 ∷ []) tt (plain (λ _. u8))) yes (λ κs a e. refl), (goes-ref 𝓤 H (𝓖 .A) (givenOf 𝓤 H 𝓜 𝓖) 3 1 tt (plain (λ _. J.the-row)), (goes-gave-slice 𝓤 H (𝓖 .A) (givenOf 𝓤 H 𝓜 𝓖) 3 2 tt (plain (λ _. u8)), tt)))
     (λ κs. (slice-vals, (ptr-vals, (slice-vals, tt)))) (λ κs. (shr-slice-tells (named 0) (κs .0) u8, (mut-tells (named 1) (κs .1 .0) J.the-row, (mut-slice-tells (named 2) (κs .1 .1 .0) u8, tt))))
     (λ C Λ fm known κs qs bounds a _ are. walk 𝓤 H (𝓖 .A) (givenOf 𝓤 H 𝓜 𝓖) (𝓜 .mem) (𝓡 .run) (κs .0) (κs .1 .0) (κs .1 .1 .0) (qs .0) (qs .1 .0) (qs .1 .1 .0) (a .0) (a .1 .0) (a .1 .1 .0) C Λ fm known (are .0 .0 .1) (are .1 .1 .0 .0 .1))

@@ -34,12 +34,12 @@ use denote.Exit.{yes}
 use Rattle.model_record.specs.declared.JobRecord.{JobRecord}
 use Rattle.model_record.specs.Claims.{Shaped}
 use Rattle.model_record.proofs.JobRecord as J
-use Rattle.pavebox.specs.Entry.{WriteAnswered}
+use Rattle.model_entry.specs.Entry.{WriteAnswered}
 use Rattle.lent.proofs.Lent.{mach, Related, typed, mine, looked, shut, TripleOf, asks, away, concludes}
 use Rattle.pavebox.proofs.LentJob.{job, in-memory}
-use Rattle.pavebox.proofs.write_into as g
-use Rattle.pavebox.proofs.write_into.Symbol as g-def
-use Rattle.pavebox.proofs.write_into.Met as g-thm
+use Rattle.enter_record.proofs.write_into as g
+use Rattle.enter_record.proofs.write_into.Symbol as g-def
+use Rattle.enter_record.proofs.write_into.Met as g-thm
 use Rattle.pavebox.proofs.pavebox_write.Key.{name as #pavebox-write}
 use Rattle.pavebox.proofs.pavebox_write as f
 use Rattle.pavebox.proofs.pavebox_write.Statement as stated
@@ -118,7 +118,7 @@ pub pavebox-write-spec : {M : Type 1} → stated.statement M
 unfolding code.routine
 pavebox-write-spec 𝓤 H 𝓜 𝓖 𝓡 =
     concludes 𝓤 H 𝓜 𝓖 𝓡 f.ended stayed (f.clauses 𝓤 H (𝓖 .A) (𝓜 .mem) (𝓡 .run)) g.ended (g.clauses 𝓤 H (𝓖 .A) (𝓜 .mem) (𝓡 .run))
-    code.env #pavebox-write code.function (code.unfolded 𝓤 H 𝓜 𝓡) g-def.name g-def.routine code.calls-pavebox·write-into (g-thm.met 𝓤 H 𝓜 𝓖 𝓡)
+    code.env #pavebox-write code.function (code.unfolded 𝓤 H 𝓜 𝓡) g-def.name g-def.routine code.calls-enter-record·write-into (g-thm.met 𝓤 H 𝓜 𝓖 𝓡)
     (goes-dropped 𝓤 H (𝓖 .A) (givenOf 𝓤 H 𝓜 𝓖) 3 (shrRefTo (0 ∷ []) tt (plain (λ _. J.the-row))) yes (λ κs a e. refl), (goes-gave-slice 𝓤 H (𝓖 .A) (givenOf 𝓤 H 𝓜 𝓖) 3 1 tt (plain (λ _. u8)), (goes-gave-slice 𝓤 H (𝓖 .A) (givenOf 𝓤 H 𝓜 𝓖) 3 2 tt (plain (λ _. u8)), tt)))
     (λ κs. (ptr-vals, (slice-vals, (slice-vals, tt)))) (λ κs. (shr-tells (named 0) (κs .0) J.the-row, (mut-slice-tells (named 1) (κs .1 .0) u8, (mut-slice-tells (named 2) (κs .1 .1 .0) u8, tt))))
     (λ C Λ fm known κs qs bounds a _ are. walk 𝓤 H (𝓖 .A) (givenOf 𝓤 H 𝓜 𝓖) (𝓜 .mem) (𝓡 .run) (κs .0) (κs .1 .0) (κs .1 .1 .0) (qs .0) (qs .1 .0) (qs .1 .1 .0) (a .0) (a .1 .0) (a .1 .1 .0) C Λ fm known (are .1 .0 .0 .1) (are .1 .1 .0 .0 .1))

@@ -249,7 +249,7 @@ fn with_late_fault(lines: &[u8], lengths: &[usize]) -> Vec<Vec<u8>> {
 }
 
 /// Every byte in the place of each byte of an accepted text, before each of them, and behind the last.
-fn with_every_byte(text: &[u8]) -> Vec<Vec<u8>> {
+pub(super) fn with_every_byte(text: &[u8]) -> Vec<Vec<u8>> {
     let mut texts = Vec::new();
     for byte in 0..=255 {
         texts.extend((0..text.len()).map(|place| with(text, place, byte)));

@@ -1,0 +1,1 @@
+// The contracts of the C entries are in specs/.

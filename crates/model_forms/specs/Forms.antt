@@ -1,0 +1,55 @@
+-- Document 02, Note 9: "Turn one into `sheet=2` with owner A and H turned to A, and turn it back to the first bytes."
+use Prim.Native.Nat.{ℕ}
+use mathlib.Core.Bool.{Bool, true, false, cond}
+use mathlib.Core.List.{List, [], _∷_}
+use lib.Dec.{eqb}
+use Rattle.model.specs.{Job.Job, Answer.After, Written.Written}
+use Rattle.model_run.specs.{Owners.ofForm}
+use Rattle.model.specs.declared.{Key.Key, Level.Level, Owner.Owner}
+use Rattle.model.specs.declared.Key.the-variants.{Open, Secret}
+use Rattle.model.specs.declared.Level.the-variants.{Low, High}
+use Rattle.model.specs.declared.Owner.the-variants.{A, B}
+use Rattle.model_change.specs.Change.{Change, gives, denies, changeSheet, changeEntry}
+use Rattle.model_forms.specs.declared.Asked.{Asked}
+use Rattle.model_forms.specs.declared.Asked.the-variants.{One, Two}
+
+-- "the form asked for": that of `sheet=1`, or of `sheet=2`
+abbrev pub number : Asked → ℕ
+number One = 1
+number Two = 2
+
+-- "names owner B or has a turn B": what is not so
+abbrev pub ownerA : Owner → Bool
+ownerA A = true
+ownerA B = false
+
+abbrev pub keyA : Key → Bool
+keyA Open = true
+keyA (Secret o d) = ownerA o
+
+abbrev pub turnA : Level → Bool
+turnA Low = true
+turnA (High o) = ownerA o
+
+unfoldable pub all : {X : Type 0} → (X → Bool) → List X → Bool
+all f [] = true
+all f (x ∷ xs) = cond (f x) (all f xs) false
+
+-- "going back only": what the second form cannot say there is not
+abbrev pub says : Asked → Job → Bool
+says One j = cond (all keyA (j .keys)) (all turnA (j .turns)) false
+says Two j = true
+
+-- 48, "after reading, if the sheet already has the form asked for"; 47, "next .., if the sheet names owner B or has a
+-- turn B". In a job of the first form each secret is A's, and each turn H; so the number of the form is all that
+-- changes, and the sheet's text follows (`LineByLine`).
+unfoldable pub turn : Asked → Job → Change
+turn a j = cond (eqb (j .form) (number a)) (denies 48) (cond (says a j) (gives (ofForm (number a) j)) (denies 47))
+
+-- 49, "last, for too little lent memory"
+unfoldable pub turnSheet : Asked → List ℕ → List ℕ → Written
+turnSheet a s m = changeSheet 49 (turn a) s m
+
+-- `pavebox_to_sheet2` and `pavebox_to_sheet1`
+unfoldable pub turnEntry : Asked → List ℕ → List ℕ → List ℕ → After
+turnEntry a s m b = changeEntry 49 (turn a) s m b
