@@ -5,32 +5,27 @@ use mathlib.Core.Logic.{_≢_}
 use mathlib.Core.List.{List, _++_}
 use native.Mathlib.{Omega.arith, Decide.decLe}
 use lib.ListN.{length, getD, take, drop}
-use Rattle.model.specs.{Job.Job, Answer.numbersOf, Placed.front, Sheet.accepted, Answer.allLe32, Written.Written, Written.textNumbers, Written.textEntry}
+use Rattle.model.specs.{Job.Job, Answer.numbersOf, Placed.front, Answer.allLe32, Written.Written, Written.textNumbers}
 use Rattle.model.specs.declared.TextAnswer.{TextAnswer}
 use Rattle.model_run.specs.Whole.{Left, runSheet}
 use Rattle.model_sheet.specs.Sheet.{sheetText}
-use Rattle.model_change.specs.Change.{Change, gives, changeSheet, changeEntry, textIn}
+use Rattle.model_change.specs.Change.{Change, changeSheet, textIn}
 use Rattle.model_change.specs.Claims.{Keeps, Made, Says, Changes}
 use Rattle.model_change.proofs.Change.{always-changes, always-runs-same}
-use Rattle.model_entry.specs.{Entry.Leaves, Texts.ThreeNumbers}
+use Rattle.model_entry.specs.{Texts.ThreeNumbers}
 use Rattle.model_entry.proofs.Texts.{text-answers, text-memory}
-use Rattle.claims.specs.{Demands.Called}
-use Rattle.claims.specs.Change.{ChangeCalled, SheetChanged, SheetChangedHolds, RefusedAlone, RunAlike, ChangedRuns}
+use Rattle.claims.specs.Change.{ChangeCalled, SheetChangedHolds, RefusedAlone, RunAlike, ChangedRuns}
 use Rattle.claims.proofs.{Demands.demand-2}
 
 module _ (little : ℕ) (some : little ≢ 0) (f : Job → Change) (keeps : Keeps f) {s o a : List ℕ} {r : ℕ} {o′ a′ : List ℕ} (c : ChangeCalled little f s o a r o′ a′) where
   pub law : Changes little f s o
   law = always-changes little some f keeps s o
 
-  met : Leaves (textEntry o a (changeSheet little f s o)) r o′ a′
-  unfolding changeEntry
-  met = c .met
-
   pub answers : {w : Written} → changeSheet little f s o ≡ w → ThreeNumbers (w .answer .number) (w .answer .line) (w .answer .bytes) r a′
-  answers e = text-answers o a (changeSheet little f s o) (c .sized) met e
+  answers e = text-answers o a (changeSheet little f s o) (c .sized) (c .met) e
 
   pub memory : {w : Written} → changeSheet little f s o ≡ w → o′ ≡ w .memory
-  memory e = text-memory o a (changeSheet little f s o) (c .sized) met e
+  memory e = text-memory o a (changeSheet little f s o) (c .sized) (c .met) e
 
   writes : (k : Job) → Made f s k → length (sheetText k) ≤ length o → ThreeNumbers 0 0 (length (sheetText k)) r a′ × (o′ ≡ sheetText k ++ drop (length (sheetText k)) o)
   unfolding front

@@ -1,29 +1,26 @@
 -- The claims of Note 9, from those of every change and the theorems about its definitions.
-use Prim.Native.Nat.{ℕ, _≤_, _<_}
-use mathlib.Core.Path.{_≡_, refl, sym, ap, subst, _∙_}
-use mathlib.Core.Logic.{_≢_}
+use Prim.Native.Nat.{ℕ, _≤_}
+use mathlib.Core.Path.{_≡_, refl, sym, ap, _∙_}
 use mathlib.Core.List.{List, _++_, map}
-use native.Mathlib.Omega.{arith}
-use lib.{ListN.length, ListN.take, ListN.drop, ListN.replicate, Seq.take-append-seam}
-use Rattle.model.specs.{Job.Job, Placed.front, Sheet.accepted, Sheet.readSheet, Text.lines, Answer.bytesFor, Written.Written, Written.textNumberCount}
+use lib.{ListN.length, ListN.take, ListN.drop, Seq.take-append-seam}
+use Rattle.model.specs.{Job.Job, Placed.front, Text.lines, Written.Written}
 use Rattle.model_run.specs.Whole.{runSheet}
 use Rattle.model_text.specs.Text.{unlines}
 use Rattle.model_sheet.specs.Sheet.{sheetText}
-use Rattle.model_change.specs.{Change.gives, Change.changeSheet, Change.changeEntry, Change.textIn, Claims.Made}
+use Rattle.model_change.specs.{Change.textIn, Claims.Made}
 use Rattle.model_forms.specs.Forms.{turn, turnSheet, turnEntry}
-use Rattle.model_forms.specs.Claims.{other, bytesIn, lineIn}
+use Rattle.model_forms.specs.Claims.{other, lineIn}
 use Rattle.model_forms.specs.Examples.{Came, to, old, new, newA}
 use Rattle.model_forms.specs.declared.Asked.{Asked}
 use Rattle.model_forms.specs.declared.Asked.the-variants.{One, Two}
 use Rattle.model_forms.proofs.{Forms.always-keeps, Sheets.runs-same, Sheets.turns-back, Sheets.always-sized, Sheets.always-answers, Sheets.by-lines, Sheets.some, Examples.examples}
-use Rattle.model_entry.specs.{Entry.Leaves, Texts.ThreeNumbers}
-use Rattle.model_entry.proofs.Texts.{text-answers}
-use Rattle.claims.specs.{Change.ChangeCalled, Change.RunAlike, Forms.FormCalled, Forms.Turned, Forms.FormTurned, Forms.FormTurnedHolds, Forms.CalledOn, Forms.returnedOn, Forms.FormsTelling}
-use Rattle.claims.proofs.Change.{answers, memory, returns, room, text, sheet-changed, run-alike}
+use Rattle.model_entry.specs.{Texts.ThreeNumbers}
+use Rattle.claims.specs.{Change.ChangeCalled, Change.RunAlike, Forms.FormCalled, Forms.Turned, Forms.FormTurnedHolds, Forms.FormRefusedAlone, Forms.CalledOn, Forms.returnedOn, Forms.FormsTelling}
+use Rattle.claims.proofs.Change.{answers, memory, returns, room, text, sheet-changed, refused-alone, run-alike}
 
 -- a call for a form is one for its change
 called : {x : Asked} {s o a : List ℕ} {r : ℕ} {o′ a′ : List ℕ} → FormCalled x s o a r o′ a′ → ChangeCalled 49 (turn x) s o a r o′ a′
-unfolding turnEntry
+unfolding turnEntry turnSheet
 called c = record { sized = c .sized; met = c .met }
 
 module _ (x : Asked) {s o a : List ℕ} {r : ℕ} {o′ a′ : List ℕ} (c : FormCalled x s o a r o′ a′) where
@@ -98,6 +95,10 @@ form-turned x s o a r o′ a′ c =
       lacks = λ j k p q b. numbers x c (always-sized x s o j k p q .lacks b) .0;
       turned = turned x c;
     }
+
+pub form-refused-alone : FormRefusedAlone
+form-refused-alone x s o a r o′ a′ c nonzero other p b q p′ b′ d =
+    refused-alone 49 (some 49 refl) (turn x) (always-keeps x) s o a r o′ a′ (called c) nonzero other p b q p′ b′ (called d)
 
 -- ---- Calls of which it speaks
 

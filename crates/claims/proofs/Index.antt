@@ -203,6 +203,7 @@ note-9 =
     record {
       calls = Forms.form-turned;
       telling = Forms.forms-telling;
+      alone = Forms.form-refused-alone;
       changes = Change.sheet-changed;
       refusedAlone = Change.refused-alone;
       changedRuns = Change.changed-runs;

@@ -3,16 +3,16 @@ use Prim.Native.Nat.{ℕ, _≤_, _<_}
 use mathlib.Core.{Path._≡_, Logic._≢_}
 use mathlib.Core.List.{List, _++_}
 use lib.ListN.{length, take, drop}
-use Rattle.model.specs.{Job.Job, Answer.bytesFor, Sheet.accepted, Sheet.refused, Sheet.readSheet, Written.textNumberCount}
+use Rattle.model.specs.{Job.Job, Answer.bytesFor, Sheet.accepted, Sheet.refused, Sheet.readSheet, Written.textNumberCount, Written.textEntry}
 use Rattle.model_sheet.specs.{Sheet.sheetText, Claims.longestSheet}
-use Rattle.model_change.specs.{Change.Change, Change.gives, Change.denies, Change.changeEntry, Claims.Keeps, Claims.SameRuns, Claims.Made, Claims.Says}
+use Rattle.model_change.specs.{Change.Change, Change.denies, Change.changeSheet, Claims.Keeps, Claims.SameRuns, Claims.Made, Claims.Says}
 use Rattle.model_entry.specs.{Entry.Leaves, Texts.ThreeNumbers}
 use Rattle.claims.specs.{Demands.Called}
 
 -- A call with an answer memory of 12 bytes, of the entry for the change f with the number short for too little memory
 pub record ChangeCalled (short : ℕ) (f : Job → Change) (sheet output answer : List ℕ) (returned : ℕ) (output′ answer′ : List ℕ) : Type 0 where
   pub sized : length answer ≡ bytesFor textNumberCount
-  pub met : Leaves (changeEntry short f sheet output answer) returned output′ answer′
+  pub met : Leaves (textEntry output answer (changeSheet short f sheet output)) returned output′ answer′
 
 pub record SheetChanged (short : ℕ) (f : Job → Change) (sheet output : List ℕ) (returned : ℕ) (output′ answer′ : List ℕ) : Type 0 where
   -- "sheets refuse as on reading", and "a refusal writes nothing"

@@ -1,6 +1,6 @@
 -- What document 02, Note 9, claims of what `pavebox_to_sheet2` and `pavebox_to_sheet1` return and leave.
 use Prim.Native.Nat.{ℕ, _≤_, _<_}
-use mathlib.Core.{Path._≡_, Logic._↔_, Logic._⊎_}
+use mathlib.Core.{Path._≡_, Logic._≢_, Logic._↔_, Logic._⊎_}
 use mathlib.Core.List.{List, _++_, map}
 use lib.ListN.{length, take, drop, replicate}
 use Rattle.model.specs.{Job.Job, Answer.bytesFor, Sheet.accepted, Sheet.readSheet, Text.lines, Written.textNumberCount}
@@ -50,6 +50,13 @@ pub record FormTurned (asked : Asked) (sheet output : List ℕ) (returned : ℕ)
 
 abbrev pub FormTurnedHolds : Type 0
 FormTurnedHolds = (x : Asked) (s o a : List ℕ) (r : ℕ) (o′ a′ : List ℕ) → FormCalled x s o a r o′ a′ → FormTurned x s o r o′ a′
+
+-- But for 49, a refusal is the sheet's alone: two calls with one sheet, whatever memories are lent
+abbrev pub FormRefusedAlone : Type 0
+FormRefusedAlone =
+    (x : Asked) (s o a : List ℕ) (r : ℕ) (o′ a′ : List ℕ) → FormCalled x s o a r o′ a′ → r ≢ 0 → r ≢ 49
+    → (p b : List ℕ) (q : ℕ) (p′ b′ : List ℕ) → FormCalled x s p b q p′ b′
+    → (q ≡ r) × (b′ ≡ a′)
 
 -- ---- The claim speaks of something: a call writes the sheet and returns 0, others lack a byte, have the form, cannot go back
 

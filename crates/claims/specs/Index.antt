@@ -37,7 +37,7 @@ use Rattle.claims.specs.Log.{LogWrittenHolds, LogTelling}
 use Rattle.claims.specs.Blocks.{BlocksWrittenHolds, BlocksTelling}
 use Rattle.claims.specs.Record.{SheetWrittenHolds, RecordReadHolds, SavedThenOpened, OpenedThenSaved, SavedRuns, RecordTelling}
 use Rattle.claims.specs.Change.{SheetChangedHolds, RefusedAlone, ChangedRuns}
-use Rattle.claims.specs.Forms.{FormTurnedHolds, FormsTelling}
+use Rattle.claims.specs.Forms.{FormTurnedHolds, FormRefusedAlone, FormsTelling}
 
 -- ---- Document 01
 
@@ -248,6 +248,8 @@ pub record Note9 : Type 0 where
   -- what each call of `pavebox_to_sheet2` and `pavebox_to_sheet1` returns and leaves; calls of which this speaks
   pub calls : FormTurnedHolds
   pub telling : FormsTelling
+  -- but for 49, a refusal is the sheet's alone
+  pub alone : FormRefusedAlone
   -- the same of every entry that makes a sheet of a sheet: what is refused, and what is written; that but for too
   -- little memory a refusal is the sheet's alone; that what was written runs as the sheet does, where a job does
   pub changes : SheetChangedHolds

@@ -4,16 +4,16 @@ use mathlib.Core.Path.{_≡_, refl, sym, ap, subst, _∙_}
 use mathlib.Core.Logic.{_≢_, inl, inr}
 use mathlib.Core.List.{List}
 use native.Mathlib.{Omega.arith, Decide.decLe}
-use lib.{ListN.length, ListN.take, Seq.take-append-seam}
+use lib.{ListN.length, Seq.take-append-seam}
 use Rattle.model.specs.{Job.Job, Placed.front, Sheet.Reading, Sheet.accepted, Sheet.refused, Sheet.readSheet, Accepted.Sound}
-use Rattle.model_run.specs.{Whole.leave, Whole.leftBy, Whole.runSheet, Run.runJob}
+use Rattle.model_run.specs.{Whole.leave, Whole.leftBy, Whole.runSheet}
 use Rattle.model.specs.Written.{Draft, Written, written, untouched, write}
 use Rattle.model.specs.Written as Written
 use Rattle.model.proofs.{Accepted.accepted-sound, Written.write-refused, Written.write-fits, Written.write-short, Written.always-writes}
 use Rattle.model_sheet.specs.{Sheet.sheetText, Claims.longestSheet}
 use Rattle.model_sheet.proofs.{Sheet.reads-back, Short.short}
 use Rattle.model_change.specs.Change.{Change, gives, denies, drafted, changeSheet, textIn}
-use Rattle.model_change.specs.Claims.{OfReading, Keeps, Made, Says, Changes, AlwaysChanges, AlwaysRunsSame}
+use Rattle.model_change.specs.Claims.{OfReading, Keeps, Made, Says, AlwaysChanges, AlwaysRunsSame}
 use Rattle.model_change.proofs.Told.{refusals-told}
 
 some-reading : (n : ℕ) → OfReading n → n ≢ 0

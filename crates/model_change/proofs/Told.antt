@@ -1,21 +1,21 @@
 -- No sheet is refused with a number other than 1 to 9 and 46.
 use Prim.Native.Nat.{ℕ, _+_, _-_}
-use mathlib.Core.Path.{_≡_, refl, subst}
+use mathlib.Core.Path.{refl, subst}
 use mathlib.Core.Logic.{inl, inr}
-use mathlib.Core.Bool.{Bool, true, false, cond}
+use mathlib.Core.Bool.{Bool, true, false}
 use mathlib.Core.List.{List, [], _∷_}
 use native.Mathlib.Omega.{arith}
 use lib.{IntN.ℤ, Dec.eqb, Dec.leb, Dec.ltb, ListN.length}
-use Rattle.model.specs.{Parsed.Parsed, Parsed._>>=_, Text.divide, Text.find, Text.same, Text.split, Text.space, Text.comma, Text.colon, Text.equalsSign, Text.bytes, Text.lines, Text.count}
-use Rattle.model.specs.{Text.lineFeed, Limits.mostBytes, Limits.forms, Number.upTo, Number.number, Number.fromOne, Command.Row, Command.Limits, Command.limits}
-use Rattle.model.specs.{Command.table, Command.rowOf, Command.byRow, Command.words, Command.readCommand, Pair.pair, Pair.part, Pair.ByKey, Head.sheetLine, Head.readFirst}
+use Rattle.model.specs.{Parsed.Parsed, Parsed._>>=_, Text.divide, Text.find, Text.same, Text.split, Text.space, Text.comma, Text.colon, Text.equalsSign, Text.bytes, Text.lines}
+use Rattle.model.specs.{Limits.mostBytes, Limits.forms, Number.upTo, Number.number, Number.fromOne, Command.Limits, Command.limits}
+use Rattle.model.specs.{Command.table, Command.rowOf, Command.words, Command.readCommand, Pair.pair, Pair.part, Pair.ByKey, Head.sheetLine, Head.readFirst}
 use Rattle.model.specs.{Head.keysLine, Head.readKeys, Head.apart, Head.owner, Head.secret, Head.secretLine, Head.allOpen, Head.readSecrets, Program.readCommands, Messages.parts, Messages.allAbsent}
 use Rattle.model.specs.{Messages.message, Messages.messageLine, Messages.readMessages, Turns.letterA, Turns.letterB, Turns.second, Turns.letter, Turns.letters, Turns.turnsLine, Turns.nothingAfter, Turns.readTurns}
 use Rattle.model.specs.{Phase.Phase, Phase.got, Phase.refused, Phase.after, Phase.numbered, Phase.one, Phase.onward, Phase.eachLine, Phase.many, Phase.oneMore, Phase.some}
 use Rattle.model.specs.{Sheet.Reading, Sheet.accepted, Sheet.next, Sheet.targets, Sheet.readBody, Sheet.readLines, Sheet.forbiddenLine, Sheet.closed, Sheet.readSheet, Form.formOf, Job.Job}
 use Rattle.model.specs.Parsed as Parsed
 use Rattle.model.specs.Sheet as Sheet
-use Rattle.model.specs.declared.{Form.Form, Key.Key, Entry.Entry, Entry.the-variants.Number, Command.Command, Level.Level}
+use Rattle.model.specs.declared.{Form.Form, Key.Key, Entry.Entry, Entry.the-variants.Number, Command.Command}
 use Rattle.model.proofs.{Accepted.either, Refused.Refuses, Refused.bind-refuses, Refused.need-refuses, Refused.up-to-refuses, Refused.number-refuses, Refused.by-row-refuses, Refused.row-refuses}
 use Rattle.model_change.specs.Claims.{OfReading, RefusalsTold}
 

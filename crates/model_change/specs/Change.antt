@@ -3,8 +3,8 @@
 use Prim.Native.Nat.{ℕ}
 use mathlib.Core.List.{List}
 use lib.ListN.{take}
-use Rattle.model.specs.{Job.Job, Answer.After, Sheet.Reading, Sheet.accepted, Sheet.refused, Sheet.readSheet}
-use Rattle.model.specs.Written.{Draft, Written, write, textEntry}
+use Rattle.model.specs.{Job.Job, Sheet.Reading, Sheet.accepted, Sheet.refused, Sheet.readSheet}
+use Rattle.model.specs.Written.{Draft, Written, write}
 use Rattle.model.specs.Written as Written
 use Rattle.model_sheet.specs.Sheet.{sheetText}
 
@@ -29,7 +29,3 @@ changeSheet short f s m = write short m (drafted f (readSheet s))
 -- the text that was written
 abbrev pub textIn : Written → List ℕ
 textIn w = take (w .answer .bytes) (w .memory)
-
--- the C entry, "formed as in Note 5": number, line, bytes
-unfoldable pub changeEntry : ℕ → (Job → Change) → List ℕ → List ℕ → List ℕ → After
-changeEntry short f s m a = textEntry m a (changeSheet short f s m)

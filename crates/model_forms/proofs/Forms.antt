@@ -1,11 +1,11 @@
 -- The claims of Note 9, over jobs.
 use Prim.Native.Nat.{ℕ, zero, suc, _≤_}
 use mathlib.Core.Path.{_≡_, refl, sym, ap, subst, _∙_}
-use mathlib.Core.Logic.{_≢_, _⊎_, inl, inr}
+use mathlib.Core.Logic.{_⊎_, inl, inr}
 use mathlib.Core.Bool.{Bool, true, false, cond}
 use mathlib.Core.List.{List, [], _∷_}
 use native.Mathlib.Omega.{arith}
-use lib.{IntN.ℤ, Dec.eqb, ListN.length, ListN.getD}
+use lib.{IntN.ℤ, Dec.eqb, ListN.getD}
 use borrow.Author.Tests.{eqb-true, eqb-false, eq-eqb, ne-eqb}
 use Rattle.model.specs.{Job.Job, Form.formOf, Form.formOne, Form.formTwo, Accepted.SoundBy, Accepted.Every, Accepted.KeyBy, Accepted.LevelBy, Accepted.Sound, Limits.forms}
 use Rattle.model.specs.declared.{Form.Form, Key.Key, Level.Level}
@@ -14,9 +14,9 @@ use Rattle.model.specs.declared.Level.the-variants.{Low, High}
 use Rattle.model.specs.declared.Owner.the-variants.{A, B}
 use Rattle.model_run.specs.{Run.runJob, Owners.ofForm}
 use Rattle.model_run.proofs.Owners.{runs-alike}
-use Rattle.model_change.specs.Change.{Change, gives, denies}
+use Rattle.model_change.specs.Change.{gives, denies}
 use Rattle.model_forms.specs.Forms.{number, keyA, turnA, all, says, turn}
-use Rattle.model_forms.specs.Claims.{other, AlwaysKeeps, JobsRunSame, JobsTurnBack, NamesB, TurnsB, Gets, AlwaysGets, AlwaysTurns, Unsayable}
+use Rattle.model_forms.specs.Claims.{other, AlwaysKeeps, JobsRunSame, JobsTurnBack, NamesB, TurnsB, AlwaysGets, AlwaysTurns, Unsayable}
 use Rattle.model_forms.specs.declared.Asked.{Asked}
 use Rattle.model_forms.specs.declared.Asked.the-variants.{One, Two}
 

@@ -1,7 +1,7 @@
 -- A sheet and what it is turned into, line by line.
 use Prim.Native.Nat.{ℕ, suc, _-_}
 use mathlib.Core.Path.{_≡_, refl, sym, ap, ap₂, _∙_}
-use mathlib.Core.Bool.{Bool, true, false}
+use mathlib.Core.Bool.{true, false}
 use mathlib.Core.List.{List, [], _∷_, _++_, map, append-nil, append-assoc}
 use native.Mathlib.Omega.{arith}
 use lib.{IntN.ℤ, ListN.length, ListN.take, ListN.length-append, Seq.take-append-seam}

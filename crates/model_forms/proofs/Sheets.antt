@@ -2,13 +2,13 @@
 use Prim.Native.Nat.{ℕ, suc, _+_, _-_, _*_, _<_, _≤_}
 use mathlib.Core.Path.{_≡_, refl, sym, ap, subst, _∙_}
 use mathlib.Core.Logic.{_≢_, _⊎_, inl, inr}
-use mathlib.Core.Bool.{Bool, true, false}
+use mathlib.Core.Bool.{true, false}
 use mathlib.Core.List.{List, [], _∷_, _++_, map}
 use native.Mathlib.{Omega.arith, Decide.decLe}
-use lib.{IntN.ℤ, ListN.length, ListN.take, ListN.length-append, ListN.length-map, Seq.take-append-seam}
-use Rattle.model.specs.{Job.Job, Form.formOf, Form.formOne, Form.formTwo, Accepted.Sound, Accepted.SoundBy, Accepted.Every, Accepted.KeyBy, Placed.front, Text.bytes, Text.lineFeed, Text.equalsSign}
+use lib.{IntN.ℤ, ListN.length, ListN.length-append, ListN.length-map, Seq.take-append-seam}
+use Rattle.model.specs.{Job.Job, Form.formOf, Form.formOne, Form.formTwo, Accepted.SoundBy, Accepted.Every, Accepted.KeyBy, Placed.front, Text.bytes, Text.lineFeed, Text.equalsSign}
 use Rattle.model.specs.{Decimal.natural, Decimal.width, Decimal.widthTo, Decimal.digits, Sheet.Reading, Sheet.accepted, Sheet.refused, Sheet.readSheet}
-use Rattle.model.specs.Written.{Written, written, untouched}
+use Rattle.model.specs.Written.{Written, written}
 use Rattle.model.specs.declared.{Form.Form, Key.Key, Level.Level, Owner.Owner}
 use Rattle.model.specs.declared.Key.the-variants.{Open, Secret}
 use Rattle.model.proofs.Accepted.{accepted-sound}
@@ -17,13 +17,13 @@ use Rattle.model_text.specs.Text.{unlines, named, pairText, commandLines, messa
 use Rattle.model_sheet.specs.Sheet.{ownerText, secretText, secretsFrom, secretLine, letterOf, headLines, secretLines, turnsLines, sheetText}
 use Rattle.model_sheet.proofs.Sheet.{writes-back}
 use Rattle.model_change.specs.Change.{Change, gives, denies, changeSheet, textIn}
-use Rattle.model_change.specs.Claims.{Keeps, Made, Changes, OfReading}
+use Rattle.model_change.specs.Claims.{Made, Changes, OfReading}
 use Rattle.model_change.proofs.{Change.always-changes, Change.always-runs-same, Told.refusals-told}
 use Rattle.model_forms.specs.Forms.{number, says, turn, turnSheet}
-use Rattle.model_forms.specs.Claims.{other, NamesB, TurnsB, RunsSame, TurnsBack, secrets, bytesIn, Sized, AlwaysSized, Answers, AlwaysAnswers, LineByLine}
+use Rattle.model_forms.specs.Claims.{other, NamesB, TurnsB, RunsSame, TurnsBack, secrets, bytesIn, AlwaysSized, AlwaysAnswers, LineByLine}
 use Rattle.model_forms.specs.declared.Asked.{Asked}
 use Rattle.model_forms.specs.declared.Asked.the-variants.{One, Two}
-use Rattle.model_forms.proofs.Forms.{Way, same, cannot, goes, way, Went, went, other-form, turn-same, always-keeps, jobs-run-same, jobs-turn-back, always-gets, says-one, SaidBy}
+use Rattle.model_forms.proofs.Forms.{Way, same, cannot, goes, way, went, other-form, turn-same, always-keeps, jobs-run-same, jobs-turn-back, always-gets, says-one}
 use Rattle.model_forms.proofs.Lines.{line-by-line}
 
 pub some : (n : ℕ) → n ≡ 49 → n ≢ 0

@@ -6,7 +6,7 @@ use mathlib.Core.List.{List, [], _∷_, _++_, map}
 use lib.{IntN.ℤ, Dec.eqb, ListN.length, ListN.take, ListN.getD}
 use Rattle.model.specs.{Job.Job, Accepted.Sound, Placed.front, Sheet.accepted, Sheet.readSheet, Text.bytes, Text.same, Text.colon, Text.lines}
 use Rattle.model.specs.{Turns.letterH, Turns.letterA}
-use Rattle.model.specs.Written.{Written, written, untouched}
+use Rattle.model.specs.Written.{written, untouched}
 use Rattle.model.specs.declared.Key.{Key}
 use Rattle.model.specs.declared.Key.the-variants.{Open, Secret}
 use Rattle.model.specs.declared.Level.{Level}
@@ -15,7 +15,7 @@ use Rattle.model.specs.declared.Owner.the-variants.{B}
 use Rattle.model_run.specs.{Owners.ofForm, Whole.runSheet}
 use Rattle.model_text.specs.Text.{unlines}
 use Rattle.model_sheet.specs.Sheet.{sheetText}
-use Rattle.model_change.specs.{Change.Change, Change.gives, Change.denies, Change.textIn, Claims.Keeps, Claims.Made, Claims.SameRuns}
+use Rattle.model_change.specs.{Change.gives, Change.denies, Change.textIn, Claims.Keeps, Claims.Made, Claims.SameRuns}
 use Rattle.model_forms.specs.Forms.{number, turn, turnSheet}
 use Rattle.model_forms.specs.declared.Asked.{Asked}
 use Rattle.model_forms.specs.declared.Asked.the-variants.{One, Two}

@@ -4,9 +4,9 @@ use Prim.Native.String.{String}
 use mathlib.Core.Path.{_≡_}
 use mathlib.Core.List.{List, [], _∷_, _++_}
 use lib.ListN.{replicate}
-use Rattle.model.specs.{Text.bytes, Text.lineFeed, SheetA.sheetA, Written.Written}
+use Rattle.model.specs.{Text.bytes, Text.lineFeed, SheetA.sheetA}
 use Rattle.model_change.specs.Change.{textIn}
-use Rattle.model_forms.specs.Forms.{turnSheet}
+use Rattle.model_forms.specs.Forms.{turnSheet, turnEntry}
 use Rattle.model_forms.specs.declared.Asked.{Asked}
 use Rattle.model_forms.specs.declared.Asked.the-variants.{One, Two}
 
@@ -25,6 +25,10 @@ writes t = record { number = 0; line = 0; text = t }
 
 abbrev pub refuses : ℕ → ℕ → Came
 refuses n l = record { number = n; line = l; text = [] }
+
+-- three numbers below 256, in 32 bits each
+abbrev pub numbers : ℕ → ℕ → ℕ → List ℕ
+numbers n l b = n ∷ 0 ∷ 0 ∷ 0 ∷ l ∷ 0 ∷ 0 ∷ 0 ∷ b ∷ 0 ∷ 0 ∷ 0 ∷ []
 
 -- document 01's sheet A
 abbrev pub old : List ℕ
@@ -77,3 +81,7 @@ pub record Examples : Type 0 where
   pub letterBack : to One (new "A" "LHLHLHLHLH") 999 ≡ refuses 9 10
   pub owner : to Two (new "C" "LALALALALA") 999 ≡ refuses 46 3
   pub owned1 : to Two (small "1" "secret=0:1:A\n" "L") 999 ≡ refuses 4 3
+  -- "The answer is formed as in Note 5": number, line and bytes, low byte first; before all else 10 for another length
+  pub entry : turnEntry Two old (replicate 116 7) (replicate 12 9) ≡ record { returned = 0; output = newA ++ (7 ∷ []); answer = numbers 0 0 115 }
+  pub refusal : turnEntry Two (new "C" "L") (replicate 2 7) (replicate 12 9) ≡ record { returned = 46; output = replicate 2 7; answer = numbers 46 3 0 }
+  pub sized : turnEntry Two newA (replicate 2 7) (replicate 13 9) ≡ record { returned = 10; output = replicate 2 7; answer = replicate 13 9 }

@@ -3,13 +3,13 @@ use Prim.Native.Nat.{ℕ}
 use mathlib.Core.Bool.{Bool, true, false, cond}
 use mathlib.Core.List.{List, [], _∷_}
 use lib.Dec.{eqb}
-use Rattle.model.specs.{Job.Job, Answer.After, Written.Written}
+use Rattle.model.specs.{Job.Job, Answer.After, Written.Written, Written.textEntry}
 use Rattle.model_run.specs.{Owners.ofForm}
 use Rattle.model.specs.declared.{Key.Key, Level.Level, Owner.Owner}
 use Rattle.model.specs.declared.Key.the-variants.{Open, Secret}
 use Rattle.model.specs.declared.Level.the-variants.{Low, High}
 use Rattle.model.specs.declared.Owner.the-variants.{A, B}
-use Rattle.model_change.specs.Change.{Change, gives, denies, changeSheet, changeEntry}
+use Rattle.model_change.specs.Change.{Change, gives, denies, changeSheet}
 use Rattle.model_forms.specs.declared.Asked.{Asked}
 use Rattle.model_forms.specs.declared.Asked.the-variants.{One, Two}
 
@@ -50,6 +50,6 @@ turn a j = cond (eqb (j .form) (number a)) (denies 48) (cond (says a j) (gives (
 unfoldable pub turnSheet : Asked → List ℕ → List ℕ → Written
 turnSheet a s m = changeSheet 49 (turn a) s m
 
--- `pavebox_to_sheet2` and `pavebox_to_sheet1`
+-- `pavebox_to_sheet2` and `pavebox_to_sheet1`: "The answer is formed as in Note 5", number, line and bytes
 unfoldable pub turnEntry : Asked → List ℕ → List ℕ → List ℕ → After
-turnEntry a s m b = changeEntry 49 (turn a) s m b
+turnEntry a s m b = textEntry m b (turnSheet a s m)

@@ -1,6 +1,6 @@
 -- What a sheet that is read, changed and saved comes to: the two ends of every change, in the words of the readers' and writers' contracts.
 use Prim.Native.Nat.{ℕ}
-use mathlib.Core.Path.{_≡_, refl, sym, ap, subst, _∙_}
+use mathlib.Core.Path.{_≡_, sym, ap, _∙_}
 use mathlib.Core.List.{List}
 use borrow.Author.Tests.{eq-eqb, ne-eqb}
 use Rattle.model.specs.{Job.Job, Stored.Stored, Stored.jobOf, Accepted.Sound, Sheet.Reading, Sheet.accepted, Sheet.refused, Sheet.readSheet, Written.untouched, Written.write}

@@ -1,6 +1,6 @@
 -- A test of every element of a list, taken from left to right; and how much of a stored job counts.
 use Prim.Native.Nat.{ℕ, zero, suc, _+_, _<_, _≤_}
-use mathlib.Core.Path.{_≡_, refl, sym, ap, ap₂, _∙_}
+use mathlib.Core.Path.{_≡_, refl, ap, _∙_}
 use mathlib.Core.Bool.{Bool, true, false, cond, _&&_, not}
 use mathlib.Core.List.{List, [], _∷_, map}
 use native.Mathlib.{Omega.arith, Numerals.add-one}
@@ -8,7 +8,7 @@ use lib.{Dec.eqb, ListN.length, ListN.getD, ListN.take, ListN.length-map}
 use lib.Seq.{length-take-le}
 use borrow.Author.Tests.{eqb-true}
 use Rattle.model.specs.{Job.Job, Turns.letterL, Turns.letterB, Accepted.Sound}
-use Rattle.model.specs.Stored.{keyCapacity, letterCapacity, keyIn, keysIn, levelOf, Stored, jobOf}
+use Rattle.model.specs.Stored.{keyCapacity, letterCapacity, keyIn, levelOf, Stored, jobOf}
 use Rattle.model.specs.declared.StoredJob.{StoredJob}
 use Rattle.model.proofs.Forms.{every-form-fits}
 use Rattle.model_forms.specs.Forms.{keyA, turnA, all, says}

@@ -1,13 +1,12 @@
 -- Refusal 10, or the sheet in the form asked for with its numbers.
 use borrow.Author.Needs.{needs}
-use Rattle.model_change.specs.Change.{changeEntry}
-use Rattle.model_forms.specs.Forms.{turnSheet, turnEntry}
+use Rattle.model_forms.specs.Forms.{turnEntry}
 use Rattle.model_entry.proofs.Texts.{text-other, text-leaves}
 use Rattle.enter_text.proofs.turn_into.Statement.{statement}
 use Rattle.enter_text.proofs.turn_into.Tie as tie
 
 pub turn-into-spec : {M : Type 1} → statement M
-unfolding turnEntry changeEntry turnSheet
+unfolding turnEntry
 turn-into-spec =
     tie.close
     (tie.spec

@@ -1,5 +1,5 @@
 -- A refusal, or the sheet.
-use mathlib.Core.Path.{_≡_, sym, ap, _∙_}
+use mathlib.Core.Path.{sym, ap, _∙_}
 use borrow.Author.Needs.{needs}
 use Rattle.model.specs.Written.{written, write}
 use Rattle.model.specs.declared.TextAnswer.{TextAnswer}

@@ -1,11 +1,10 @@
 -- Those before the i-th are none of B's.
 use Prim.Native.Nat.{ℕ, _-_, _<_, _≤_}
 use mathlib.Core.Path.{_≡_, refl, sym, ap, ap₂, _∙_}
-use mathlib.Core.Bool.{Bool, true, false, _&&_}
-use mathlib.Core.List.{List}
+use mathlib.Core.Bool.{Bool, true, _&&_}
 use native.Mathlib.Omega.{arith}
 use borrow.Author.{Needs.needs, Tests.not-true, Tests.not-false}
-use lib.ListN.{length, take, getD}
+use lib.ListN.{length, take}
 use Rattle.model.specs.Stored.{keyCapacity, keyIn, keysIn, openSlot}
 use Rattle.model.specs.declared.KeySlot.{KeySlot}
 use Rattle.model_forms.specs.Forms.{keyA, all}

@@ -1,9 +1,8 @@
 -- The keys, then the turns; the second form says all.
 use mathlib.Core.Path.{_≡_, sym, ap, _∙_}
-use mathlib.Core.Bool.{Bool, false, cond}
 use borrow.Author.{Needs.needs, Tests.not-true, Tests.not-false}
 use Rattle.model.specs.{Job.Job, Stored.jobOf}
-use Rattle.model_forms.specs.Forms.{says, turnA, all}
+use Rattle.model_forms.specs.Forms.{says, all}
 use Rattle.model_forms.specs.declared.Asked.{Asked}
 use Rattle.model_forms.specs.declared.Asked.the-variants.{One}
 use Rattle.turn_form.proofs.Laws.{key-most, turn-most, says-owners, says-turns}

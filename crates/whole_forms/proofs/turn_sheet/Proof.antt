@@ -1,7 +1,7 @@
 -- A refusal of reading, or what is made of the job.
-use mathlib.Core.Path.{_≡_, refl, sym, ap, _∙_}
+use mathlib.Core.Path.{sym, ap, _∙_}
 use borrow.Author.Needs.{needs}
-use Rattle.model.specs.{Stored.jobOf, Written.write}
+use Rattle.model.specs.{Written.write}
 use Rattle.model_change.specs.Change.{Change, draftOf}
 use Rattle.model_forms.specs.Forms.{turn, turnSheet}
 use Rattle.model_forms.proofs.Forms.{always-keeps}

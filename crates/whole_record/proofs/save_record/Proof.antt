@@ -1,5 +1,5 @@
 -- A record that does not pass, or its sheet.
-use mathlib.Core.Path.{_≡_, sym, ap, _∙_}
+use mathlib.Core.Path.{sym, ap, _∙_}
 use mathlib.Core.List.{List}
 use Prim.Native.Nat.{ℕ}
 use borrow.Author.{Needs.needs, Tests.not-true, Tests.not-false}
