@@ -9,7 +9,8 @@ use Rattle.model_change.specs.{Change.Change, Change.denies, Change.changeSheet
 use Rattle.model_entry.specs.{Entry.Leaves, Texts.ThreeNumbers}
 use Rattle.claims.specs.{Demands.Called}
 
--- A call with an answer memory of 12 bytes, of the entry for the change f with the number short for too little memory
+-- A call with an answer memory of 12 bytes, of the entry for the change f, with the number short for too little
+-- memory
 pub record ChangeCalled (short : ℕ) (f : Job → Change) (sheet output answer : List ℕ) (returned : ℕ) (output′ answer′ : List ℕ) : Type 0 where
   pub sized : length answer ≡ bytesFor textNumberCount
   pub met : Leaves (textEntry output answer (changeSheet short f sheet output)) returned output′ answer′
@@ -43,7 +44,8 @@ RefusedAlone =
     → (p b : List ℕ) (q : ℕ) (p′ b′ : List ℕ) → ChangeCalled short f s p b q p′ b′
     → (q ≡ r) × (b′ ≡ a′)
 
--- Two sheets run alike: on one memory `pavebox_run` returns the same for both, and leaves the same bytes in both memories
+-- Two sheets run alike: on one memory `pavebox_run` returns the same for both, and leaves the same bytes in both
+-- memories
 abbrev pub RunAlike : List ℕ → List ℕ → Type 0
 RunAlike s t =
     (o a b : List ℕ) (r q : ℕ) (o′ p′ a′ b′ : List ℕ) → Called s o a r o′ a′ → Called t o b q p′ b′

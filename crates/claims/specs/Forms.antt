@@ -58,7 +58,8 @@ FormRefusedAlone =
     → (p b : List ℕ) (q : ℕ) (p′ b′ : List ℕ) → FormCalled x s p b q p′ b′
     → (q ≡ r) × (b′ ≡ a′)
 
--- ---- The claim speaks of something: a call writes the sheet and returns 0, others lack a byte, have the form, cannot go back
+-- ---- The claim speaks of something: a call writes the sheet and returns 0, others lack a byte, have the form, cannot
+-- go back
 
 -- what a call returns that lends so much
 abbrev pub returnedOn : Asked → List ℕ → ℕ → ℕ

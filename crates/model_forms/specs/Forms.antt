@@ -18,7 +18,7 @@ abbrev pub number : Asked → ℕ
 number One = 1
 number Two = 2
 
--- "names owner B or has a turn B": what is not so
+-- "if the sheet names owner B or has a turn B": the owners, keys and turns that are not B's
 abbrev pub ownerA : Owner → Bool
 ownerA A = true
 ownerA B = false
@@ -35,14 +35,14 @@ unfoldable pub all : {X : Type 0} → (X → Bool) → List X → Bool
 all f [] = true
 all f (x ∷ xs) = cond (f x) (all f xs) false
 
--- "going back only": what the second form cannot say there is not
+-- whether the form asked for can say a job. "going back only": the second says all.
 abbrev pub says : Asked → Job → Bool
 says One j = cond (all keyA (j .keys)) (all turnA (j .turns)) false
 says Two j = true
 
 -- 48, "after reading, if the sheet already has the form asked for"; 47, "next .., if the sheet names owner B or has a
--- turn B". In a job of the first form each secret is A's, and each turn H; so the number of the form is all that
--- changes, and the sheet's text follows (`LineByLine`).
+-- turn B". In a job of the first form every secret is A's, and every H a turn of A's: so the number of the form is
+-- all that changes, and what becomes of the text follows (`LineByLine`).
 unfoldable pub turn : Asked → Job → Change
 turn a j = cond (eqb (j .form) (number a)) (denies 48) (cond (says a j) (gives (ofForm (number a) j)) (denies 47))
 
