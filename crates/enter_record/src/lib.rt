@@ -1,5 +1,5 @@
-// What the C entries of a record do, with the record by value: the length of the answer memory is tested, and the numbers go
-// into it.
+// What the C entries of a record do, with the record by value: the length of the answer memory is tested, and the
+// numbers go into it.
 use model_record::JobRecord;
 use whole_record::open_sheet;
 use whole_record::save_record;

@@ -1,4 +1,5 @@
-// What the C entries do that run a sheet or write a text: the length of the answer memory is tested, and the numbers go into it.
+// What the C entries do that run a sheet or write a text: the length of the answer memory is tested, and the numbers
+// go into it.
 use model::ANSWER_BYTES;
 use model::TEXT_ANSWER_BYTES;
 use model::TextAnswer;
@@ -22,8 +23,8 @@ const BLOCKS_ANSWER_BYTES: usize = TEXT_ANSWER_BYTES;
 
 const FORM_ANSWER_BYTES: usize = TEXT_ANSWER_BYTES;
 
-// An answer memory of another length than 28 bytes gets 10, and nothing is written; else the sheet is run on the output memory, the seven numbers go
-// into the answer memory, and the first of them is returned.
+// An answer memory of another length than 28 bytes gets 10, and nothing is written; else the sheet is run on the
+// output memory, the seven numbers go into the answer memory, and the first of them is returned.
 pub fn run_into(sheet: &[u8], output: &mut [u8], answer: &mut [u8]) -> u32
     ensures { λ r. ⌜ Answered (now (sheet .entry)) (now (output .entry)) (now (answer .entry)) r (now (output .exit)) (now (answer .exit)) ⌝ }
 {
@@ -46,8 +47,8 @@ fn put_text_answer(answer: &mut [u8], a: TextAnswer) -> u32
     a.number
 }
 
-// An answer memory of another length than 12 bytes gets 10, and nothing is written; else the `msg` lines of the export go into the output memory, the three
-// numbers go into the answer memory, and the first of them is returned.
+// An answer memory of another length than 12 bytes gets 10, and nothing is written; else the `msg` lines of the
+// export go into the output memory, the three numbers go into the answer memory, and the first of them is returned.
 pub fn csv_into(log: &[u8], output: &mut [u8], answer: &mut [u8]) -> u32
     ensures { λ r. ⌜ LogAnswered (now (log .entry)) (now (output .entry)) (now (answer .entry)) r (now (output .exit)) (now (answer .exit)) ⌝ }
 {
@@ -58,8 +59,9 @@ pub fn csv_into(log: &[u8], output: &mut [u8], answer: &mut [u8]) -> u32
     put_text_answer(answer, a)
 }
 
-// An answer memory of another length than 12 bytes gets 10, and nothing is written; else the `do` lines of the program with blocks for so many keys go into the
-// output memory, the three numbers go into the answer memory, and the first of them is returned.
+// An answer memory of another length than 12 bytes gets 10, and nothing is written; else the `do` lines of the
+// program with blocks for so many keys go into the output memory, the three numbers go into the answer memory, and
+// the first of them is returned.
 pub fn blocks_into(text: &[u8], keys: u32, output: &mut [u8], answer: &mut [u8]) -> u32
     ensures { λ r. ⌜ BlocksAnswered (now (text .entry)) keys (now (output .entry)) (now (answer .entry)) r (now (output .exit)) (now (answer .exit)) ⌝ }
 {
@@ -70,9 +72,8 @@ pub fn blocks_into(text: &[u8], keys: u32, output: &mut [u8], answer: &mut [u8])
     put_text_answer(answer, a)
 }
 
-// An answer memory of another
-// length than 12 bytes gets 10, and nothing is written; else the sheet in that form goes into the output memory, the three
-// numbers go into the answer memory, and the first of them is returned.
+// An answer memory of another length than 12 bytes gets 10, and nothing is written; else the sheet in that form goes
+// into the output memory, the three numbers go into the answer memory, and the first of them is returned.
 pub fn turn_into(sheet: &[u8], asked: Asked, output: &mut [u8], answer: &mut [u8]) -> u32
     ensures { λ r. ⌜ FormAnswered asked (now (sheet .entry)) (now (output .entry)) (now (answer .entry)) r (now (output .exit)) (now (answer .exit)) ⌝ }
 {

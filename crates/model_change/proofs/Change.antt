@@ -1,4 +1,5 @@
--- The law of every change of a sheet, from that of every text in lent memory and from reading and writing being inverse.
+-- The law of every change of a sheet, from that of every text in lent memory and from reading and writing being
+-- inverse.
 use Prim.Native.Nat.{ℕ, _≤_, _<_}
 use mathlib.Core.Path.{_≡_, refl, sym, ap, subst, _∙_}
 use mathlib.Core.Logic.{_≢_, inl, inr}

@@ -1,4 +1,5 @@
--- What a sheet that is read, changed and saved comes to: the two ends of every change, in the words of the readers' and writers' contracts.
+-- What a sheet that is read, changed and saved comes to: the two ends of every change, in the words of the readers'
+-- and writers' contracts.
 use Prim.Native.Nat.{ℕ}
 use mathlib.Core.Path.{_≡_, sym, ap, _∙_}
 use mathlib.Core.List.{List}
