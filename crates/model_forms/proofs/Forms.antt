@@ -1,21 +1,22 @@
 -- The claims of Note 9, over jobs.
-use Prim.Native.Nat.{ℕ, zero, suc, _≤_}
+use Prim.Native.Nat.{ℕ, _≤_}
 use mathlib.Core.Path.{_≡_, refl, sym, ap, subst, _∙_}
 use mathlib.Core.Logic.{_⊎_, inl, inr}
-use mathlib.Core.Bool.{Bool, true, false, cond}
-use mathlib.Core.List.{List, [], _∷_}
+use mathlib.Core.Bool.{Bool, true, false, _&&_, and-false}
 use native.Mathlib.Omega.{arith}
-use lib.{IntN.ℤ, Dec.eqb, ListN.getD}
+use lib.{IntN.ℤ, Dec.eqb}
 use borrow.Author.Tests.{eqb-true, eqb-false, eq-eqb, ne-eqb}
-use Rattle.model.specs.{Job.Job, Form.formOf, Form.formOne, Form.formTwo, Accepted.SoundBy, Accepted.Every, Accepted.KeyBy, Accepted.LevelBy, Accepted.Sound, Limits.forms}
+use Rattle.model.specs.{Job.Job, Form.formOf, Form.formOne, Form.formTwo, Accepted.SoundBy, Accepted.Every, Accepted.KeyBy, Accepted.LevelBy, Accepted.Sound, Accepted.all, Limits.forms}
 use Rattle.model.specs.declared.{Form.Form, Key.Key, Level.Level}
 use Rattle.model.specs.declared.Key.the-variants.{Open, Secret}
 use Rattle.model.specs.declared.Level.the-variants.{Low, High}
 use Rattle.model.specs.declared.Owner.the-variants.{A, B}
 use Rattle.model_run.specs.{Run.runJob, Owners.ofForm}
 use Rattle.model_run.proofs.Owners.{runs-alike}
+use Rattle.model_text.proofs.{Bytes.every-imply, TextLaws.and-both}
+use Rattle.model_text.proofs.Tests.{Pass, and-made, all-every, every-all, fails-at, at-fails}
 use Rattle.model_change.specs.Change.{gives, denies}
-use Rattle.model_forms.specs.Forms.{number, keyA, turnA, all, says, turn}
+use Rattle.model_forms.specs.Forms.{number, keyA, turnA, says, turn}
 use Rattle.model_forms.specs.Claims.{other, AlwaysKeeps, JobsRunSame, JobsTurnBack, NamesB, TurnsB, AlwaysGets, AlwaysTurns, Unsayable}
 use Rattle.model_forms.specs.declared.Asked.{Asked}
 use Rattle.model_forms.specs.declared.Asked.the-variants.{One, Two}
@@ -78,24 +79,6 @@ pub jobs-run-same : JobsRunSame
 jobs-run-same a j k room e = ap (λ (x : Job). runJob x room) (went a j k e .is) ∙ runs-alike (number a) j room
 
 -- ---- What a form says
-
-both : (x y : Bool) → cond x y false ≡ true → (x ≡ true) × (y ≡ true)
-both true y e = (refl, e)
-both false y e = never e
-
-every-all : {X : Type 0} {P : X → Type 0} (f : X → Bool) → ((x : X) → P x → f x ≡ true) → (xs : List X) → Every P xs → all f xs ≡ true
-unfolding all
-every-all f h [] k = refl
-every-all f h (x ∷ xs) k = rw (h x (k .0)) (every-all f h xs (k .1))
-
-all-every : {X : Type 0} {P : X → Type 0} (f : X → Bool) → ((x : X) → f x ≡ true → P x) → (xs : List X) → all f xs ≡ true → Every P xs
-unfolding all
-all-every f h [] e = tt
-all-every f h (x ∷ xs) e = let b = both (f x) (all f xs) e in (h x (b .0), all-every f h xs (b .1))
-
-every-imply : {X : Type 0} {P Q : X → Type 0} → ((x : X) → P x → Q x) → (xs : List X) → Every P xs → Every Q xs
-every-imply h [] k = tt
-every-imply h (x ∷ xs) k = (h x (k .0), every-imply h xs (k .1))
 
 key-a : (k : Key) → KeyBy false k → keyA k ≡ true
 key-a Open h = refl
@@ -174,13 +157,24 @@ in-form f g n j some l s o =
 
 -- the first form says what has nothing of B's
 pub says-one : (j : Job) → says One j ≡ true → SaidBy false j
-says-one j e = let b = both (all keyA (j .keys)) _ e in record { owners = all-every keyA a-key (j .keys) (b .0); levels = all-every turnA a-turn (j .turns) (b .1) }
+says-one j e =
+    let b = and-both (all keyA (j .keys)) _ e in
+    record {
+      owners = every-imply (Pass keyA) (KeyBy false) a-key (j .keys) (all-every keyA (j .keys) (b .0));
+      levels = every-imply (Pass turnA) (LevelBy false) a-turn (j .turns) (all-every turnA (j .turns) (b .1));
+    }
 
 one-says : (j : Job) → SaidBy false j → says One j ≡ true
-one-says j s = rw (every-all keyA key-a (j .keys) (s .owners)) (every-all turnA turn-a (j .turns) (s .levels))
+one-says j s =
+    and-made (every-all keyA (j .keys) (every-imply (KeyBy false) (Pass keyA) key-a (j .keys) (s .owners)))
+    (every-all turnA (j .turns) (every-imply (LevelBy false) (Pass turnA) turn-a (j .turns) (s .levels)))
 
 two-says : (j : Job) → SaidBy false j → SaidBy true j
-two-says j s = record { owners = every-imply wider-key (j .keys) (s .owners); levels = every-imply wider-turn (j .turns) (s .levels) }
+two-says j s =
+    record {
+      owners = every-imply (KeyBy false) (KeyBy true) wider-key (j .keys) (s .owners);
+      levels = every-imply (LevelBy false) (LevelBy true) wider-turn (j .turns) (s .levels);
+    }
 
 -- what is said in a form
 said-in : (a : Asked) (j : Job) → Sound j → j .form ≡ number (other a) → says a j ≡ true → Sound (ofForm (number a) j)
@@ -223,27 +217,6 @@ jobs-turn-back a j k h e =
 
 -- ---- The refusals, by the job's own words
 
--- one of a list fails a test
-fails-at : {X : Type 0} (f : X → Bool) (d : X) → f d ≡ true → (xs : List X) → all f xs ≡ false → (i : ℕ) × (f (getD xs i d) ≡ false)
-unfolding all
-fails-at f d h [] e = never (sym e)
-fails-at f d h (x ∷ xs) e = go (fails-at f d h xs) (f x) refl
-  where
-    go : (all f xs ≡ false → (i : ℕ) × (f (getD xs i d) ≡ false)) → (b : Bool) → f x ≡ b → (i : ℕ) × (f (getD (x ∷ xs) i d) ≡ false)
-    go later false q = (zero, q)
-    go later true q = let r = later (sym (ap (λ (b : Bool). cond b (all f xs) false) q) ∙ e) in (suc (r .0), r .1)
-
-at-fails : {X : Type 0} (f : X → Bool) (d : X) → f d ≡ true → (xs : List X) (i : ℕ) → f (getD xs i d) ≡ false → all f xs ≡ false
-unfolding all
-at-fails f d h [] zero e = never (sym e ∙ h)
-at-fails f d h [] (suc i) e = never (sym e ∙ h)
-at-fails f d h (x ∷ xs) zero e = rw e
-at-fails f d h (x ∷ xs) (suc i) e = ap (λ (b : Bool). cond (f x) b false) (at-fails f d h xs i e) ∙ none (f x)
-  where
-    none : (b : Bool) → cond b false false ≡ false
-    none true = refl
-    none false = refl
-
 key-b : (k : Key) → keyA k ≡ false → (d : ℤ) × (k ≡ Secret B d)
 key-b Open e = never (sym e)
 key-b (Secret A d) e = never (sym e)
@@ -261,16 +234,12 @@ cannot-b j e = go (all keyA (j .keys)) refl
     go : (b : Bool) → all keyA (j .keys) ≡ b → NamesB j ⊎ TurnsB j
     go false q = let r = fails-at keyA Open refl (j .keys) q in let k = key-b _ (r .1) in inl (r .0, k .0, k .1)
     go true q =
-        let r = fails-at turnA Low refl (j .turns) (sym (ap (λ (b : Bool). cond b (all turnA (j .turns)) false) q) ∙ e) in
+        let r = fails-at turnA Low refl (j .turns) (sym (ap (λ (b : Bool). b && all turnA (j .turns)) q) ∙ e) in
         inr (r .0, turn-b _ (r .1))
 
 b-cannot : (j : Job) → NamesB j ⊎ TurnsB j → says One j ≡ false
 b-cannot j (inl (k, d, e)) = rw (at-fails keyA Open refl (j .keys) k (ap keyA e))
-b-cannot j (inr (p, e)) = rw (at-fails turnA Low refl (j .turns) p (ap turnA e)) (none (all keyA (j .keys)))
-  where
-    none : (b : Bool) → cond b false false ≡ false
-    none true = refl
-    none false = refl
+b-cannot j (inr (p, e)) = rw (at-fails turnA Low refl (j .turns) p (ap turnA e)) (and-false (all keyA (j .keys)))
 
 gets48 : (a : Asked) (j : Job) → turn a j ≡ denies 48 → j .form ≡ number a
 gets48 a j e = go (way a j)

@@ -1,9 +1,9 @@
 -- Document 02, Note 9: "Turn one into `sheet=2` with owner A and H turned to A, and turn it back to the first bytes."
 use Prim.Native.Nat.{ℕ}
-use mathlib.Core.Bool.{Bool, true, false, cond}
-use mathlib.Core.List.{List, [], _∷_}
+use mathlib.Core.Bool.{Bool, true, false, cond, _&&_}
+use mathlib.Core.List.{List}
 use lib.Dec.{eqb}
-use Rattle.model.specs.{Job.Job, Answer.After, Written.Written, Written.textEntry}
+use Rattle.model.specs.{Job.Job, Accepted.all, Answer.After, Written.Written, Written.textEntry}
 use Rattle.model_run.specs.{Owners.ofForm}
 use Rattle.model.specs.declared.{Key.Key, Level.Level, Owner.Owner}
 use Rattle.model.specs.declared.Key.the-variants.{Open, Secret}
@@ -31,13 +31,9 @@ abbrev pub turnA : Level → Bool
 turnA Low = true
 turnA (High o) = ownerA o
 
-unfoldable pub all : {X : Type 0} → (X → Bool) → List X → Bool
-all f [] = true
-all f (x ∷ xs) = cond (f x) (all f xs) false
-
 -- whether the form asked for can say a job. "going back only": the second says all.
 abbrev pub says : Asked → Job → Bool
-says One j = cond (all keyA (j .keys)) (all turnA (j .turns)) false
+says One j = all keyA (j .keys) && all turnA (j .turns)
 says Two j = true
 
 -- 48, "after reading, if the sheet already has the form asked for"; 47, "next .., if the sheet names owner B or has a

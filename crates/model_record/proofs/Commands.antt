@@ -17,7 +17,7 @@ use Rattle.model_text.proofs.TextLaws.{and-both}
 use Rattle.model_record.specs.Data.{CommandRecord}
 use Rattle.model.specs.Number.{isZero}
 use Rattle.model_record.specs.Record.{inRange, commandFits, commandOf, commandRecord}
-use Rattle.model_record.proofs.Tests.{and-made}
+use Rattle.model_text.proofs.Tests.{and-made}
 
 -- ---- Words
 

@@ -15,7 +15,7 @@ use Rattle.model_text.proofs.Bytes.{every-made-from}
 use Rattle.model_text.proofs.TextLaws.{and-both}
 use Rattle.model_record.specs.Data.{EntryRecord}
 use Rattle.model_record.specs.Record.{rising, entersAll, entryKey, entryFits, entriesFit, entryPair, entryRecord, entryRecords}
-use Rattle.model_record.proofs.Tests.{and-made, Pass, all-every, every-all}
+use Rattle.model_text.proofs.Tests.{and-made, Pass, all-every, every-all}
 use Rattle.model_record.proofs.Lists.{map-back-all}
 use Rattle.model_record.proofs.Pairs.{keyIn, keysIn, entered-length, entered-every, pairs-entered, pairs-rise, pairs-range, pairs-count, entered-pairs}
 

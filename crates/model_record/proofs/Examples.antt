@@ -1,7 +1,7 @@
 -- The examples hold: antt computes each.
 use mathlib.Core.Path.{_≡_, refl}
 use lib.ListN.{length}
-use Rattle.model.specs.{Accepted.rowFor, Accepted.has, Written.write, SheetA.job1}
+use Rattle.model.specs.{Accepted.rowFor, Accepted.has, Accepted.all, Written.write, SheetA.job1}
 use Rattle.model.proofs.{Accepted.every-replicate, Accepted.accepted-sound}
 use Rattle.model_run.proofs.{Examples.opened, Witness.bounds-reached}
 use Rattle.model_text.specs.Text as Text
@@ -21,7 +21,7 @@ unfoldable pub shown : Unit {0}
 unfolding opened SheetTwo.sheetTwo SheetTwo.withMessages rowFor has write Answer.le32 Answer.allLe32 Decimal.whole
     Text.joined Text.unlines Text.named Text.pairText Text.pairs Text.messageText Text.messageLines Text.operandText Text.commandText Text.commandLines
     Sheet.headLines Sheet.secretText Sheet.secretsFrom Sheet.secretLines Sheet.turnsLines Sheet.sheetText
-    Record.said Record.all Record.rising Record.secretsFit Record.commandFits Record.entriesFit Record.messageFits Record.letterFits Record.countsFit Record.passes
+    Record.said all Record.rising Record.secretsFit Record.commandFits Record.entriesFit Record.messageFits Record.letterFits Record.countsFit Record.passes
     Record.entersAll Record.hides Record.keysOf Record.commandOf Record.entriesOf Record.jobIn
     Record.recordsFrom Record.commandRecord Record.entryRecords Record.messageOver Record.messagesOver Record.recordOver
     Entry.draft Entry.writeRecord Entry.readEntry

@@ -1,5 +1,4 @@
 -- The proofs of what is claimed of a record and its sheet.
-pub mod Tests
 pub mod Lists
 pub mod Pairs
 pub mod Secrets

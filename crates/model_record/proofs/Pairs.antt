@@ -13,7 +13,7 @@ use Rattle.model.proofs.{Accepted.every-set, Stored.map-set}
 use Rattle.model_text.specs.Text.{pairs}
 use Rattle.model_text.proofs.TextLaws.{and-both}
 use Rattle.model_record.specs.Record.{rising, entersAll}
-use Rattle.model_record.proofs.Tests.{and-made}
+use Rattle.model_text.proofs.Tests.{and-made}
 
 -- the key of a pair, and the keys of pairs
 abbrev pub keyIn : ℕ × ℤ → ℕ

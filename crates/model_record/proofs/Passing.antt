@@ -8,8 +8,9 @@ use borrow.Author.Tests.{leb-true, le-leb}
 use Rattle.model.specs.{Limits.forms, Text.between, Form.formOf, Accepted.Every}
 use Rattle.model_text.proofs.TextLaws.{and-both, between-in}
 use Rattle.model_record.specs.Data.{MessageRecord, JobRecord}
-use Rattle.model_record.specs.Record.{all, secretsFit, commandFits, entriesFit, messageFits, letterFits, countsFit, passes}
-use Rattle.model_record.proofs.Tests.{and-made, Pass, all-every, every-all}
+use Rattle.model_record.specs.Record.{secretsFit, commandFits, entriesFit, messageFits, letterFits, countsFit, passes}
+use Rattle.model.specs.Accepted.{all}
+use Rattle.model_text.proofs.Tests.{and-made, Pass, all-every, every-all}
 
 -- the tests of `countsFit` first, and then those of what the counts cover
 pub record Passing (r : JobRecord) : Type 0 where

@@ -15,7 +15,7 @@ use Rattle.model_sheet.proofs.Secrets.{OpenFrom, open-later, open-all, open-set
 use Rattle.model_text.proofs.TextLaws.{and-both}
 use Rattle.model_record.specs.Data.{SecretRecord}
 use Rattle.model_record.specs.Record.{rising, ownerFits, secretKey, secretFits, secretsFit, ownerOf, keyOf, hides, keysOf, ownerNumber, secretRecord, recordsFrom, secretRecords}
-use Rattle.model_record.proofs.Tests.{and-made, Pass, all-every, every-all}
+use Rattle.model_text.proofs.Tests.{and-made, Pass, all-every, every-all}
 
 -- ---- From a record
 

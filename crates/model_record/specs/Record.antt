@@ -5,7 +5,7 @@ use mathlib.Core.List.{List, [], _∷_, map}
 use mathlib.Core.Bool.{Bool, true, false, cond, _&&_, _||_}
 use lib.{IntN.ℤ, Signed.mag, Dec.eqb, Dec.leb, Dec.ltb, ListN.length, ListN.take, ListN.set, ListN.replicate}
 use Rattle.model.specs.{Limits.forms, Turns.letterA, Turns.letterB, Limits.variables, Limits.greatestNumber, Text.between, Number.isZero, Command.table, Form.formOf}
-use Rattle.model.specs.{Accepted.rowAt, Accepted.placeOf, Accepted.has, Job.Job, Stored.levelOf, Placed.front}
+use Rattle.model.specs.{Accepted.rowAt, Accepted.placeOf, Accepted.has, Accepted.all, Job.Job, Stored.levelOf, Placed.front}
 use Rattle.model.specs.declared.{Form.Form, Entry.Entry, Key.Key, Owner.Owner, Command.Command, Operand.Operand}
 use Rattle.model.specs.declared.Entry.the-variants.{Absent, Number}
 use Rattle.model.specs.declared.Key.the-variants.{Open, Secret}
@@ -60,11 +60,6 @@ said r =
 
 -- ---- Which records pass: of what the counts cover, "54 if a number or count in the record is outside its limits in document 01, a turn letter is neither `L`
 -- nor `H`, keys don't rise, or a target exceeds the count of commands"
-
--- a test of every element
-unfoldable pub all : {A : Type 0} → (A → Bool) → List A → Bool
-all p [] = true
-all p (x ∷ xs) = p x && all p xs
 
 -- keys below K that rise, where next is the least that may come
 unfoldable pub rising : ℕ → ℕ → List ℕ → Bool

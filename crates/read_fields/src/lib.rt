@@ -17,7 +17,8 @@ ghost use mathlib.Core.Bool.{cond};
 ghost use Prim.Native.Nat.{_≤_};
 ghost use lib.ListN.{take, length};
 ghost use Rattle.model.specs.Stored.{letterCapacity};
-ghost use Rattle.model_record.specs.Record.{all, ownerFits, ownerOf, commandFits, letterFits, commandOf};
+ghost use Rattle.model.specs.Accepted.{all};
+ghost use Rattle.model_record.specs.Record.{ownerFits, ownerOf, commandFits, letterFits, commandOf};
 ghost use Rattle.read_fields.specs.Fields.{LimitsAt, Narrow};
 
 // Where owners are named, `A` or `B`; else 0.

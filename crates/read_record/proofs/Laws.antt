@@ -3,39 +3,17 @@ use Prim.Native.Nat.{ℕ, _+_, _<_, _≤_}
 use mathlib.Core.Path.{_≡_, refl, sym, ap, _∙_}
 use mathlib.Core.Bool.{Bool, true, false, _&&_, and-false, and-true}
 use mathlib.Core.List.{List, [], _∷_, _++_, map, append-nil, append-assoc}
-use native.Mathlib.{Numerals.add-one, Omega.arith}
 use borrow.Author.Tests.{ltb-true}
 use mir.{Syntax.w32, Val.SFits}
 use lib.{IntN.ℤ, Dec.leb, Dec.ltb, ListN.length, ListN.take, ListN.drop, ListN.set, ListN.replicate}
 use Rattle.model.specs.{Stored.firstOf, Stored.keyIn, Stored.openSlot}
 use Rattle.model.specs.declared.{Key.Key, Key.the-variants.Open, KeySlot.KeySlot}
 use Rattle.model.proofs.Stored.{first-set, first-same, map-more}
-use Rattle.model_record.specs.Record.{all, rising, entersAll, ownerFits, secretFits, keyOf, hides}
+use Rattle.model.specs.Accepted.{all}
+use Rattle.model_record.specs.Record.{rising, entersAll, ownerFits, secretFits, keyOf, hides}
 use Rattle.model_record.specs.declared.SecretRecord.{SecretRecord}
-use Rattle.model_text.proofs.TextLaws.{and-both}
+use Rattle.model_text.proofs.{TextLaws.and-both, Tests.Tested, Tests.tested-more}
 use Rattle.read_fields.proofs.Laws.{in-range}
-
--- ---- A test of every element
-
--- the elements before i pass, so that the rest decides
-pub record Tested {A : Type 0} (p : A → Bool) (xs : List A) (i : ℕ) : Type 0 where
-  pub same : all p xs ≡ all p (drop i xs)
-
-module _ {A : Type 0} {p : A → Bool} {xs : List A} {i : ℕ} (t : Tested p xs i) where
-  -- the next one does not pass
-  pub tested-bad : {x : A} {ys : List A} → drop i xs ≡ x ∷ ys → p x ≡ false → all p xs ≡ false
-  unfolding all
-  tested-bad e h = t .same ∙ rw (e, h)
-
-  -- it passes
-  pub tested-more : {x : A} → drop i xs ≡ x ∷ drop (i + 1) xs → p x ≡ true → Tested p xs (i + 1)
-  unfolding all
-  tested-more e h = record { same = t .same ∙ rw (e, h) }
-
-  -- there is none left
-  pub tested-end : drop i xs ≡ [] → all p xs ≡ true
-  unfolding all
-  tested-end e = t .same ∙ rw e
 
 -- ---- Elements that are made into those of another array, one after the other, as g shows them
 

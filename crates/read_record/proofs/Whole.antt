@@ -8,7 +8,8 @@ use Rattle.model.proofs.Forms.{every-form-fits}
 use lib.{Dec.leb, ListN.length, ListN.take}
 use Rattle.model.specs.{Limits.forms, Form.formOf, Text.between, Stored.keyCapacity, Stored.commandCapacity, Stored.messageCapacity, Stored.letterCapacity, Stored.jobOf}
 use Rattle.model.specs.Stored.{nothingStored}
-use Rattle.model_record.specs.Record.{all, letterFits, countsFit, passes, jobIn}
+use Rattle.model.specs.Accepted.{all}
+use Rattle.model_record.specs.Record.{letterFits, countsFit, passes, jobIn}
 use Rattle.model_record.specs.declared.JobRecord.{JobRecord}
 use Rattle.model_text.proofs.TextLaws.{and-both, between-in}
 use Rattle.read_record.specs.Read.{SecretsTaken, CommandsTaken, MessagesTaken, Takes}

@@ -11,9 +11,9 @@ ghost use mathlib.Core.Path.{_≡_};
 ghost use mathlib.Core.List.{map};
 ghost use Prim.Native.Nat.{_≤_};
 ghost use lib.ListN.{take};
-ghost use Rattle.model.specs.{Stored.keyCapacity, Stored.letterCapacity, Stored.keysIn, Stored.levelOf, Stored.Stored, Stored.jobOf, Accepted.Sound};
+ghost use Rattle.model.specs.{Stored.keyCapacity, Stored.letterCapacity, Stored.keysIn, Stored.levelOf, Stored.Stored, Stored.jobOf, Accepted.Sound, Accepted.all};
 ghost use Rattle.model_change.specs.Changed.{Comes};
-ghost use Rattle.model_forms.specs.Forms.{number, keyA, turnA, all, says as saysIn, turn as turns};
+ghost use Rattle.model_forms.specs.Forms.{number, keyA, turnA, says as saysIn, turn as turns};
 
 fn number_of(asked: Asked) -> u64
     ensures { λ r. ⌜ r ≡ number asked ⌝ }

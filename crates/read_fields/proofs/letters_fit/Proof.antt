@@ -6,7 +6,8 @@ use borrow.Author.Needs.{needs}
 use lib.ListN.{length, take}
 use Rattle.model.specs.Form.{thirdOf}
 use Rattle.model_record.specs.Record.{letterFits}
-use Rattle.read_fields.proofs.Laws.{Told, left-some, left-none, told-more, told-end, letter-among}
+use Rattle.model_text.proofs.Tests.{Told, left-some, left-none, told-more, told-end}
+use Rattle.read_fields.proofs.Laws.{letter-among}
 use Rattle.read_fields.proofs.letters_fit.Statement.{statement}
 use Rattle.read_fields.proofs.letters_fit.Tie as tie
 

@@ -9,8 +9,9 @@ use lib.{IntN.pos, ListN.length, ListN.getD, ListN.take, ListN.drop, ListN.lengt
 use Rattle.model.specs.{Stored.commandCapacity, declared.Command.Command}
 use Rattle.model_record.specs.Record.{commandFits, commandOf}
 use Rattle.model_record.specs.declared.CommandRecord.{CommandRecord}
-use Rattle.read_fields.proofs.{Laws.left-some, Laws.left-none, Words.narrow}
-use Rattle.read_record.proofs.Laws.{Taking, taking-begins, tested-bad, tested-end, taking-more, taking-end}
+use Rattle.model_text.proofs.Tests.{left-some, left-none, tested-bad, tested-end}
+use Rattle.read_fields.proofs.{Words.narrow}
+use Rattle.read_record.proofs.Laws.{Taking, taking-begins, taking-more, taking-end}
 use Rattle.read_record.proofs.commands_of.Statement.{statement}
 use Rattle.read_record.proofs.commands_of.Tie as tie
 

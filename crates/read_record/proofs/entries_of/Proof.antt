@@ -11,7 +11,8 @@ use Rattle.model.specs.Stored.{keyCapacity, entryIn, absentSlot}
 use Rattle.model.specs.declared.Entry.the-variants.{Absent, Number}
 use Rattle.model_record.specs.Record.{entryPair, entryFits, entriesFit}
 use Rattle.model_record.specs.declared.EntryRecord.{EntryRecord}
-use Rattle.read_fields.proofs.Laws.{left-some, left-none, in-range}
+use Rattle.model_text.proofs.Tests.{left-some, left-none}
+use Rattle.read_fields.proofs.Laws.{in-range}
 use Rattle.read_record.proofs.Laws.{Entering, goodOne, good-below, entering-begins, entering-bad, entering-more, entering-end}
 use Rattle.read_record.proofs.entries_of.Statement.{statement}
 use Rattle.read_record.proofs.entries_of.Tie as tie

@@ -9,8 +9,8 @@ use lib.ListN.{length, getD, take, drop, length-set}
 use Rattle.model.specs.Stored.{messageCapacity, entriesIn, entryIn, firstOf}
 use Rattle.model_record.specs.Record.{messageFits, entriesOf}
 use Rattle.model_record.specs.declared.MessageRecord.{MessageRecord}
-use Rattle.read_fields.proofs.Laws.{left-some, left-none}
-use Rattle.read_record.proofs.Laws.{Taking, taking-begins, tested-bad, tested-end, taking-more, taking-end}
+use Rattle.model_text.proofs.Tests.{left-some, left-none, tested-bad, tested-end}
+use Rattle.read_record.proofs.Laws.{Taking, taking-begins, taking-more, taking-end}
 use Rattle.read_record.proofs.messages_of.Statement.{statement}
 use Rattle.read_record.proofs.messages_of.Tie as tie
 

@@ -2,7 +2,7 @@
 use mathlib.Core.Path.{_≡_, sym, ap, _∙_}
 use borrow.Author.{Needs.needs, Tests.not-true, Tests.not-false}
 use Rattle.model.specs.{Job.Job, Stored.jobOf}
-use Rattle.model_forms.specs.Forms.{says, all}
+use Rattle.model_forms.specs.Forms.{says}
 use Rattle.model_forms.specs.declared.Asked.{Asked}
 use Rattle.model_forms.specs.declared.Asked.the-variants.{One}
 use Rattle.turn_form.proofs.Laws.{key-most, turn-most, says-owners, says-turns}

@@ -1,13 +1,14 @@
--- So far none is B's, if the flag says so.
+-- Whether those so far are none of B's, and those that are left, is whether all are.
 use Prim.Native.Nat.{ℕ, _-_, _<_, _≤_}
-use mathlib.Core.Path.{_≡_, refl, sym, ap, ap₂, _∙_}
-use mathlib.Core.Bool.{Bool, _&&_}
+use mathlib.Core.Path.{_≡_, refl, sym, _∙_}
+use mathlib.Core.Bool.{Bool}
 use native.Mathlib.Omega.{arith}
 use borrow.Author.Needs.{needs}
 use lib.ListN.{length, take, getD}
 use Rattle.model.specs.Stored.{letterCapacity, levelOf}
-use Rattle.model_forms.specs.Forms.{turnA, all}
-use Rattle.turn_form.proofs.Laws.{all-next, all-map, letter-a}
+use Rattle.model_forms.specs.Forms.{turnA}
+use Rattle.model_text.proofs.Tests.{Told, left-some, left-none, told-more, told-end, all-map}
+use Rattle.turn_form.proofs.Laws.{letter-a}
 use Rattle.turn_form.proofs.turns_a.Statement.{statement}
 use Rattle.turn_form.proofs.turns_a.Tie as tie
 
@@ -15,7 +16,7 @@ abbrev ofA : ℕ → Bool
 ofA b = turnA (levelOf b)
 
 abbrev Inv-loop : tie.InvT-loop
-Inv-loop n turns known₀ i₀ known i = (known ≡ all ofA (take i turns)) × (i ≤ n)
+Inv-loop n turns known₀ i₀ known i = Told ofA (take n turns) i known × (i ≤ n)
 
 abbrev μ-loop : tie.MeasureT-loop
 μ-loop n turns known₀ i₀ known i = n - i
@@ -33,29 +34,29 @@ long c = search needs
 room : (c : StepL) → c .before .loop .i < letterCapacity
 room c = omega (arith, c .loop-test .taken, startOf c .pre)
 
+-- the count is covered
+covered : (c : tie.Start Inv-loop μ-loop) → c .args .n ≤ length (c .args .t1)
+covered c = omega (arith, c .pre, long c)
+
 loop-again : tie.Need-loop-again Inv-loop μ-loop
 loop-again c =
     let b = startOf c in
-    let l = c .before .loop in (
-      ap₂ _&&_ (l .inv .0) (sym (letter-a (getD (b .args .t1) (l .i) 0))) ∙ sym (all-next ofA (b .args .t1) (l .i) 0 (omega (arith, room c, long b))),
-      omega (arith, c .loop-test .taken),
-    )
+    let l = c .before .loop in
+    (told-more (l .inv .0) (left-some _ _ (covered b) _ 0 (c .loop-test .taken)) (letter-a (getD (b .args .t1) (l .i) 0)), omega (arith, c .loop-test .taken))
 
 returns : tie.Need-returns Inv-loop μ-loop
 returns c =
     let l = c .before in
     let b = l .before in
-    let e : l .loop .i ≡ b .args .n = omega (arith, c .loop-test .left, l .loop .inv .1) in
-    l .loop .inv .0 ∙ ap (λ (n : ℕ). all ofA (take n (b .args .t1))) e ∙ sym (all-map levelOf turnA (take (b .args .n) (b .args .t1)))
+    told-end (l .loop .inv .0) (left-none (b .args .t1) (b .args .n) (covered b) (l .loop .i) (omega (arith, c .loop-test .left))) ∙ sym (all-map turnA levelOf (take (b .args .n) (b .args .t1)))
 
 pub turns-a-spec : {M : Type 1} → statement M
-unfolding all
 turns-a-spec =
     tie.close
     (tie.spec
     Inv-loop
     μ-loop
-    (λ c. (refl, omega arith))
+    (λ c. (record { same = refl }, omega arith))
     (λ c. omega (arith, room c, long (startOf c)))
     (λ c. omega (arith, room c))
     (λ c. omega (arith, c .loop-test .taken))
