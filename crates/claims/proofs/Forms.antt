@@ -1,19 +1,19 @@
 -- The claims of Note 9, from those of every change and the theorems about its definitions.
-use Prim.Native.Nat.{ℕ, _≤_}
+use Prim.Native.Nat.{ℕ, _+_, _*_, _≤_}
 use mathlib.Core.Path.{_≡_, refl, sym, ap, _∙_}
 use mathlib.Core.List.{List, _++_, map}
 use lib.{ListN.length, ListN.take, ListN.drop, Seq.take-append-seam}
-use Rattle.model.specs.{Job.Job, Placed.front, Text.lines, Written.Written}
+use Rattle.model.specs.{Job.Job, Placed.front, Sheet.accepted, Sheet.readSheet, Text.lines, Written.Written}
 use Rattle.model_run.specs.Whole.{runSheet}
 use Rattle.model_text.specs.Text.{unlines}
 use Rattle.model_sheet.specs.Sheet.{sheetText}
 use Rattle.model_change.specs.{Change.textIn, Claims.Made}
 use Rattle.model_forms.specs.Forms.{turn, turnSheet, turnEntry}
-use Rattle.model_forms.specs.Claims.{other, lineIn}
+use Rattle.model_forms.specs.Claims.{other, secrets, lineIn}
 use Rattle.model_forms.specs.Examples.{Came, to, old, new, newA}
 use Rattle.model_forms.specs.declared.Asked.{Asked}
 use Rattle.model_forms.specs.declared.Asked.the-variants.{One, Two}
-use Rattle.model_forms.proofs.{Forms.always-keeps, Sheets.runs-same, Sheets.turns-back, Sheets.always-sized, Sheets.always-answers, Sheets.by-lines, Sheets.some, Examples.examples}
+use Rattle.model_forms.proofs.{Forms.always-keeps, Sheets.runs-same, Sheets.turns-back, Sheets.always-sized, Sheets.always-converts, Sheets.always-answers, Sheets.by-lines, Sheets.some, Examples.examples}
 use Rattle.model_entry.specs.{Texts.ThreeNumbers}
 use Rattle.claims.specs.{Change.ChangeCalled, Change.RunAlike, Forms.FormCalled, Forms.Turned, Forms.FormTurnedHolds, Forms.FormRefusedAlone, Forms.CalledOn, Forms.returnedOn, Forms.FormsTelling}
 use Rattle.claims.proofs.Change.{answers, memory, returns, room, text, sheet-changed, refused-alone, run-alike}
@@ -82,6 +82,11 @@ turned x {s} {o} {a} {r} {o′} {a′} c z =
       },
     )
 
+converts : (x : Asked) {s o a : List ℕ} {r : ℕ} {o′ a′ : List ℕ} → FormCalled x s o a r o′ a′
+    → (j : Job) → x ≡ Two → readSheet s ≡ accepted j → j .form ≡ 1 → length s + 2 * secrets (j .keys) ≤ length o
+    → ThreeNumbers 0 0 (length s + 2 * secrets (j .keys)) r a′
+converts x {s} {o} c j two e one b = numbers x c (ap (λ (y : Asked). turnSheet y s o) two ∙ always-converts s o j e one b)
+
 pub form-turned : FormTurnedHolds
 form-turned x s o a r o′ a′ c =
     let g = always-answers x s o in
@@ -93,6 +98,7 @@ form-turned x s o a r o′ a′ c =
       gets49 = ((λ z. g .gets49 .0 (sym e ∙ z)), λ h. e ∙ g .gets49 .1 h);
       fits = λ j k p q b. numbers x c (always-sized x s o j k p q .fits b);
       lacks = λ j k p q b. numbers x c (always-sized x s o j k p q .lacks b) .0;
+      converts = converts x c;
       turned = turned x c;
     }
 

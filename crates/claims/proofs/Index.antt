@@ -219,6 +219,7 @@ note-9 =
       runs = FormSheets.runs-same;
       back = FormSheets.turns-back;
       sized = FormSheets.always-sized;
+      converts = FormSheets.always-converts;
       answers = FormSheets.always-answers;
       lines = FormSheets.by-lines;
       examples = FormExamples.examples;

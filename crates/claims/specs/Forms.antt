@@ -1,5 +1,5 @@
 -- What document 02, Note 9, claims of what `pavebox_to_sheet2` and `pavebox_to_sheet1` return and leave.
-use Prim.Native.Nat.{ℕ, _≤_, _<_}
+use Prim.Native.Nat.{ℕ, _+_, _*_, _≤_, _<_}
 use mathlib.Core.{Path._≡_, Logic._≢_, Logic._↔_, Logic._⊎_}
 use mathlib.Core.List.{List, _++_, map}
 use lib.ListN.{length, take, drop, replicate}
@@ -8,7 +8,7 @@ use Rattle.model_text.specs.Text.{unlines}
 use Rattle.model_sheet.specs.Sheet.{sheetText}
 use Rattle.model_change.specs.{Change.gives, Claims.Made}
 use Rattle.model_forms.specs.Forms.{number, turn, turnEntry}
-use Rattle.model_forms.specs.Claims.{other, NamesB, TurnsB, bytesIn, lineIn}
+use Rattle.model_forms.specs.Claims.{other, NamesB, TurnsB, secrets, bytesIn, lineIn}
 use Rattle.model_forms.specs.Examples.{old, new, newA}
 use Rattle.model_forms.specs.declared.Asked.{Asked}
 use Rattle.model_forms.specs.declared.Asked.the-variants.{One, Two}
@@ -46,6 +46,9 @@ pub record FormTurned (asked : Asked) (sheet output : List ℕ) (returned : ℕ)
   pub fits : (j k : Job) → readSheet sheet ≡ accepted j → turn asked j ≡ gives k → bytesIn asked sheet j ≤ length output
       → ThreeNumbers 0 0 (bytesIn asked sheet j) returned answer′
   pub lacks : (j k : Job) → readSheet sheet ≡ accepted j → turn asked j ≡ gives k → length output < bytesIn asked sheet j → returned ≡ 49
+  -- so every accepted `sheet=1` converts
+  pub converts : (j : Job) → asked ≡ Two → readSheet sheet ≡ accepted j → j .form ≡ 1 → length sheet + 2 * secrets (j .keys) ≤ length output
+      → ThreeNumbers 0 0 (length sheet + 2 * secrets (j .keys)) returned answer′
   pub turned : returned ≡ 0 → (n : ℕ) × Turned asked sheet output returned output′ answer′ n
 
 abbrev pub FormTurnedHolds : Type 0

@@ -20,10 +20,10 @@ use Rattle.model_change.specs.Change.{Change, gives, denies, changeSheet, textI
 use Rattle.model_change.specs.Claims.{Made, Changes, OfReading}
 use Rattle.model_change.proofs.{Change.always-changes, Change.always-runs-same, Told.refusals-told}
 use Rattle.model_forms.specs.Forms.{number, says, turn, turnSheet}
-use Rattle.model_forms.specs.Claims.{other, NamesB, TurnsB, RunsSame, TurnsBack, secrets, bytesIn, AlwaysSized, AlwaysAnswers, LineByLine}
+use Rattle.model_forms.specs.Claims.{other, NamesB, TurnsB, RunsSame, TurnsBack, secrets, bytesIn, AlwaysSized, AlwaysConverts, AlwaysAnswers, LineByLine}
 use Rattle.model_forms.specs.declared.Asked.{Asked}
 use Rattle.model_forms.specs.declared.Asked.the-variants.{One, Two}
-use Rattle.model_forms.proofs.Forms.{Way, same, cannot, goes, way, went, other-form, turn-same, always-keeps, jobs-run-same, jobs-turn-back, always-gets, says-one}
+use Rattle.model_forms.proofs.Forms.{Way, same, cannot, goes, way, went, other-form, turn-same, always-keeps, jobs-run-same, jobs-turn-back, always-gets, always-turns, says-one}
 use Rattle.model_forms.proofs.Lines.{line-by-line}
 
 pub some : (n : ℕ) → n ≡ 49 → n ≢ 0
@@ -199,6 +199,9 @@ always-sized a s m j k e q =
           ∙ ap (λ (x : ℕ). written (record { number = 0; line = 0; bytes = x }) (front m (sheetText k))) n;
       lacks = λ b. law a s m .lacks k h (subst (λ (x : ℕ). length m < x) (sym n) b);
     }
+
+pub always-converts : AlwaysConverts
+always-converts s m j e one b = always-sized Two s m j (ofForm 2 j) e (always-turns j one) .fits b
 
 -- ---- Which sheets get which number
 

@@ -96,6 +96,12 @@ pub record Sized (a : Asked) (s m : List ℕ) (j : Job) (k : Job) : Type 0 where
 abbrev pub AlwaysSized : Type 0
 AlwaysSized = (a : Asked) (s m : List ℕ) (j k : Job) → readSheet s ≡ accepted j → turn a j ≡ gives k → Sized a s m j k
 
+-- so every accepted `sheet=1` converts, wherever there is memory for its bytes and two for each secret
+abbrev pub AlwaysConverts : Type 0
+AlwaysConverts =
+    (s m : List ℕ) (j : Job) → readSheet s ≡ accepted j → j .form ≡ 1 → length s + 2 * secrets (j .keys) ≤ length m
+    → turnSheet Two s m ≡ written (record { number = 0; line = 0; bytes = length s + 2 * secrets (j .keys) }) (front m (sheetText (ofForm 2 j)))
+
 -- which sheets get each of the request's own numbers
 pub record Answers (a : Asked) (s m : List ℕ) : Type 0 where
   pub gets48 : (turnSheet a s m .answer .number ≡ 48) ↔ ((j : Job) × (readSheet s ≡ accepted j) × (j .form ≡ number a))
