@@ -108,8 +108,10 @@ pub const BAD_FIELD: u32 = 42;
 /// The refusal of an export whose lines are longer than the output memory.
 pub const NO_ROOM_FOR_LINES: u32 = 43;
 
+/// The bytes of a [`TextAnswer`].
+const TEXT_ANSWER_BYTES: usize = 12;
 /// The bytes of an answer of [`blocks_entry`].
-pub const BLOCKS_ANSWER_BYTES: usize = 12;
+pub const BLOCKS_ANSWER_BYTES: usize = TEXT_ANSWER_BYTES;
 /// No program with blocks gives more bytes of lines. With so much output memory
 /// [`NO_ROOM_FOR_COMMANDS`] occurs for more than 64 commands only.
 pub const MOST_BLOCKS_OUTPUT_BYTES: usize = 1_344;
@@ -189,7 +191,7 @@ pub const READ_ANSWER_BYTES: usize = 8;
 /// The number of a sheet that the record holds.
 pub const ACCEPTED: u32 = 0;
 /// The bytes of an answer of [`to_sheet2_entry`] and of [`to_sheet1_entry`].
-pub const FORM_ANSWER_BYTES: usize = 12;
+pub const FORM_ANSWER_BYTES: usize = TEXT_ANSWER_BYTES;
 /// No sheet that is turned into form 2 is longer. With so much output memory [`to_sheet2`] never answers
 /// [`NO_ROOM_FOR_FORM`].
 pub const MOST_SHEET2_BYTES: usize = 6_286;
@@ -350,22 +352,28 @@ impl CsvAnswer {
     }
 }
 
-/// The three numbers of a program with blocks.
+/// The three numbers of a text that is made of another one: of [`blocks`], [`to_sheet2`] and [`to_sheet1`].
 #[derive(Debug, Clone, Copy, PartialEq, Eq)]
-pub struct BlocksAnswer {
-    /// 0 if the lines were written, else the refusal: 2, 4, 6, 51, 52 or 53.
+pub struct TextAnswer {
+    /// 0 if the text was written, else the refusal.
     pub number: u32,
     /// The line that is refused, from 1; 0 if there is none. Of a line beyond 4,294,967,295 the low 32
     /// bits.
     pub line: u32,
-    /// Bytes of `do` lines at the start of the output memory.
+    /// Bytes of the text at the start of the output memory.
     pub written: u32,
 }
 
-impl BlocksAnswer {
+/// The three numbers of a program with blocks. The refusals are 2, 4, 6, 51, 52 or 53.
+pub type BlocksAnswer = TextAnswer;
+/// The three numbers of a sheet that is to be turned into its other form. The refusals are 1 to 9 or 46, as on
+/// reading, or 47, 48 or 49.
+pub type FormAnswer = TextAnswer;
+
+impl TextAnswer {
     /// The three numbers out of an answer memory, where each has 32 bits, low byte first.
-    pub fn from_bytes(bytes: &[u8; BLOCKS_ANSWER_BYTES]) -> BlocksAnswer {
-        BlocksAnswer {
+    pub fn from_bytes(bytes: &[u8; TEXT_ANSWER_BYTES]) -> TextAnswer {
+        TextAnswer {
             number: number(bytes, 0),
             line: number(bytes, 1),
             written: number(bytes, 2),
@@ -544,33 +552,6 @@ impl ReadAnswer {
     /// The two numbers in their order.
     pub fn numbers(&self) -> [u32; 2] {
         [self.number, self.line]
-    }
-}
-
-/// The three numbers of a sheet that is to be turned into its other form.
-#[derive(Debug, Clone, Copy, PartialEq, Eq)]
-pub struct FormAnswer {
-    /// 0 if the turned sheet was written, else the refusal: 1 to 9 or 46, as on reading, or 47, 48 or 49.
-    pub number: u32,
-    /// The line that is refused, from 1; 0 if there is none.
-    pub line: u32,
-    /// Bytes of the turned sheet at the start of the output memory.
-    pub written: u32,
-}
-
-impl FormAnswer {
-    /// The three numbers out of an answer memory, where each has 32 bits, low byte first.
-    pub fn from_bytes(bytes: &[u8; FORM_ANSWER_BYTES]) -> FormAnswer {
-        FormAnswer {
-            number: number(bytes, 0),
-            line: number(bytes, 1),
-            written: number(bytes, 2),
-        }
-    }
-
-    /// The three numbers in their order.
-    pub fn numbers(&self) -> [u32; 3] {
-        [self.number, self.line, self.written]
     }
 }
 

@@ -86,7 +86,7 @@ run-alike s t e o a b r q o′ p′ a′ b′ c d =
     )
 
 pub changed-runs : ChangedRuns
-changed-runs little some f keeps runs s o a o′ a′ c k h =
+changed-runs little some f keeps runs s o a r o′ a′ c z k h =
     run-alike s (take (length (sheetText k)) o′) (λ m.
-    ap (λ (t : List ℕ). runSheet t m) (text little some f keeps c refl k h)
-    ∙ always-runs-same little some f keeps runs s o (sym (returns little some f keeps c)) m)
+    ap (λ (t : List ℕ). runSheet t m) (text little some f keeps c z k h)
+    ∙ always-runs-same little some f keeps runs s o (sym (returns little some f keeps c) ∙ z) m)

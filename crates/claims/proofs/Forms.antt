@@ -4,7 +4,6 @@ use mathlib.Core.Path.{_≡_, refl, sym, ap, _∙_}
 use mathlib.Core.List.{List, _++_, map}
 use lib.{ListN.length, ListN.take, ListN.drop, Seq.take-append-seam}
 use Rattle.model.specs.{Job.Job, Placed.front, Sheet.accepted, Sheet.readSheet, Text.lines, Written.Written}
-use Rattle.model_run.specs.Whole.{runSheet}
 use Rattle.model_text.specs.Text.{unlines}
 use Rattle.model_sheet.specs.Sheet.{sheetText}
 use Rattle.model_change.specs.{Change.textIn, Claims.Made}
@@ -13,10 +12,10 @@ use Rattle.model_forms.specs.Claims.{other, secrets, lineIn}
 use Rattle.model_forms.specs.Examples.{Came, to, old, new, newA}
 use Rattle.model_forms.specs.declared.Asked.{Asked}
 use Rattle.model_forms.specs.declared.Asked.the-variants.{One, Two}
-use Rattle.model_forms.proofs.{Forms.always-keeps, Sheets.runs-same, Sheets.turns-back, Sheets.always-sized, Sheets.always-converts, Sheets.always-answers, Sheets.by-lines, Sheets.some, Examples.examples}
+use Rattle.model_forms.proofs.{Forms.always-keeps, Forms.jobs-run-same, Sheets.turns-back, Sheets.always-sized, Sheets.always-converts, Sheets.always-answers, Sheets.by-lines, Sheets.some, Examples.examples}
 use Rattle.model_entry.specs.{Texts.ThreeNumbers}
 use Rattle.claims.specs.{Change.ChangeCalled, Change.RunAlike, Forms.FormCalled, Forms.Turned, Forms.FormTurnedHolds, Forms.FormRefusedAlone, Forms.CalledOn, Forms.returnedOn, Forms.FormsTelling}
-use Rattle.claims.proofs.Change.{answers, memory, returns, room, text, sheet-changed, refused-alone, run-alike}
+use Rattle.claims.proofs.Change.{answers, memory, returns, room, text, sheet-changed, refused-alone, changed-runs}
 
 -- a call for a form is one for its change
 called : {x : Asked} {s o a : List ℕ} {r : ℕ} {o′ a′ : List ℕ} → FormCalled x s o a r o′ a′ → ChangeCalled 49 (turn x) s o a r o′ a′
@@ -57,7 +56,7 @@ module _ (x : Asked) {s o a : List ℕ} {r : ℕ} {o′ a′ : List ℕ} (c : Fo
     lines-of = sym taken ∙ written-text ∙ by-lines x s o zero
 
     runs : RunAlike s (take size o′)
-    runs = run-alike s (take size o′) (λ m. ap (λ (t : List ℕ). runSheet t m) written-text ∙ runs-same x s o zero m)
+    runs = changed-runs 49 (some 49 refl) (turn x) (always-keeps x) (jobs-run-same x) s o a r o′ a′ (called c) z k h
 
 pub turned-back : (x : Asked) {s o a : List ℕ} {r : ℕ} {o′ a′ : List ℕ} (c : FormCalled x s o a r o′ a′) (z : r ≡ 0) (k : Job) (h : Made (turn x) s k)
     → (p b : List ℕ) (q : ℕ) (p′ b′ : List ℕ) → FormCalled (other x) (take (length (sheetText k)) o′) p b q p′ b′ → length s ≤ length p

@@ -55,5 +55,5 @@ RunAlike s t =
 abbrev pub ChangedRuns : Type 0
 ChangedRuns =
     (short : ℕ) → short ≢ 0 → (f : Job → Change) → Keeps f → SameRuns f
-    → (s o a : List ℕ) (o′ a′ : List ℕ) → ChangeCalled short f s o a 0 o′ a′
+    → (s o a : List ℕ) (r : ℕ) (o′ a′ : List ℕ) → ChangeCalled short f s o a r o′ a′ → r ≡ 0
     → (k : Job) → Made f s k → RunAlike s (take (length (sheetText k)) o′)

@@ -268,7 +268,8 @@ pub record Note9 : Type 0 where
   pub turns : FormClaims.AlwaysTurns
   pub unsayable : FormClaims.Unsayable
   -- over sheets as texts: both forms run to the same bytes and numbers; back to the first bytes; the bytes, and the
-  -- memory that is enough; that every `sheet=1` converts; exactly which sheets get 48, 47 and 49; what becomes of each line
+  -- memory that is enough; that every `sheet=1` converts; exactly which sheets get 48, 47 and 49; what becomes of each
+  -- line
   pub runs : FormClaims.RunsSame
   pub back : FormClaims.TurnsBack
   pub sized : FormClaims.AlwaysSized

@@ -195,9 +195,9 @@ says-own Two j h e = refl
 
 -- ---- Back
 
--- the form that it had, given back
-same-form : (j : Job) (n m : ℕ) → j .form ≡ n → ofForm n (ofForm m j) ≡ j
-same-form j n m e = λ i. record { form = sym e i; keys = j .keys; commands = j .commands; messages = j .messages; turns = j .turns }
+-- a job of a form is the job of that form
+pub of-form : (j : Job) (n : ℕ) → j .form ≡ n → ofForm n j ≡ j
+of-form j n e = λ i. record { form = sym e i; keys = j .keys; commands = j .commands; messages = j .messages; turns = j .turns }
 
 apart : (a : Asked) → number a ≡ number (other a) → ⊥
 apart One e = omega arith
@@ -213,7 +213,7 @@ jobs-turn-back a j k h e =
     let f = other-form a j h (w .other) in
     ap (turn (other a)) (w .is)
     ∙ turn-gives (other a) (ofForm (number a) j) (apart a) (says-of (other a) (number a) j (says-own (other a) j h f))
-    ∙ ap gives (same-form j (number (other a)) (number a) f)
+    ∙ ap gives (of-form j (number (other a)) f)
 
 -- ---- The refusals, by the job's own words
 

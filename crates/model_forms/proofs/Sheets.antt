@@ -23,7 +23,7 @@ use Rattle.model_forms.specs.Forms.{number, says, turn, turnSheet}
 use Rattle.model_forms.specs.Claims.{other, NamesB, TurnsB, RunsSame, TurnsBack, secrets, bytesIn, AlwaysSized, AlwaysConverts, AlwaysAnswers, LineByLine}
 use Rattle.model_forms.specs.declared.Asked.{Asked}
 use Rattle.model_forms.specs.declared.Asked.the-variants.{One, Two}
-use Rattle.model_forms.proofs.Forms.{Way, same, cannot, goes, way, went, other-form, turn-same, always-keeps, jobs-run-same, jobs-turn-back, always-gets, always-turns, says-one}
+use Rattle.model_forms.proofs.Forms.{Way, same, cannot, goes, way, went, other-form, of-form, turn-same, always-keeps, jobs-run-same, jobs-turn-back, always-gets, always-turns, says-one}
 use Rattle.model_forms.proofs.Lines.{line-by-line}
 
 pub some : (n : ℕ) → n ≡ 49 → n ≢ 0
@@ -31,10 +31,6 @@ some n e z = omega arith
 
 abbrev numberOf : Written → ℕ
 numberOf w = w .answer .number
-
--- a job of a form is the job of that form
-of-form : (j : Job) (n : ℕ) → j .form ≡ n → ofForm n j ≡ j
-of-form j n e = λ i. record { form = sym e i; keys = j .keys; commands = j .commands; messages = j .messages; turns = j .turns }
 
 -- ---- The bytes
 
