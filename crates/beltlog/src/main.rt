@@ -1,5 +1,7 @@
 // Takes an export of the belt log from standard input, or from the file that its argument names, and prints the `msg` lines; standard error gets `answer=`
 // with the number, the row and the bytes written. As much is lent as any export needs.
+#![tactic(auto)]
+
 use input::Text;
 use libc::STDERR_FILENO;
 

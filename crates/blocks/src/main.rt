@@ -1,5 +1,7 @@
 // Takes a program with blocks from standard input, or from the file that its second argument names, and prints the `do` lines for as many keys as its first
 // argument says; standard error gets `answer=` with the number, the line and the bytes written. As much is lent as any program needs.
+#![tactic(auto)]
+
 use input::Text;
 use libc::STDERR_FILENO;
 use read_text::Natural;

@@ -1,5 +1,7 @@
 // What the C entries of a record do, with the record by value: the length of the answer memory is tested, and the
 // numbers go into it.
+#![tactic(auto)]
+
 ghost use Rattle.std.specs.Prelude.{◌≡◌, [], ◌∷◌, length};
 ghost use Rattle.model.specs.{Answer.all_le32, Answer.bytes_for};
 ghost use Rattle.model_record.specs.{Entry.record_number_count};
@@ -36,7 +38,7 @@ pub fn write_into(job: JobRecord, output: &mut [u8], answer: &mut [u8]) -> u32
 }
 
 // The record after a call, and the number to return.
-#[derive(Drop)]
+#[derive(Clone, Copy)]
 pub struct Opening {
     pub after: JobRecord,
     pub number: u32,

@@ -1,5 +1,7 @@
 // What the C entries do that run a sheet or write a text: the length of the answer memory is tested, and the numbers
 // go into it.
+#![tactic(auto)]
+
 ghost use Rattle.std.specs.Prelude.{◌≡◌, length};
 ghost use Rattle.model.specs.{Answer.all_le32, Answer.bytes_for, Written.text_numbers, Written.text_number_count};
 ghost use Rattle.model_entry.specs.Entry.{Answered, LogAnswered, BlocksAnswered, FormAnswered};

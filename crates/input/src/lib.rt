@@ -1,4 +1,6 @@
 // What a program is given: the text, from a file that its last argument names or else from standard input, and numbers before that.
+#![tactic(auto)]
+
 ghost use Rattle.std.specs.Prelude.{◌≡◌, length};
 ghost use Rattle.input.specs.Text.{WithinBuffer, NineDigits};
 
@@ -15,7 +17,7 @@ pub fn buffer() -> [u8; 262145]
 }
 
 // So many bytes were read; or a read failed, the text does not end within the buffer, or there are other arguments than the program takes.
-#[derive(Drop)]
+#[derive(Clone, Copy)]
 pub enum Text {
     Got(usize),
     Failed,

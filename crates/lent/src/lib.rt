@@ -1,1 +1,2 @@
 // Laws of lent memory, in proofs/. There is no function here.
+#![tactic(auto)]

@@ -2,6 +2,8 @@
 //
 // The code takes every limit and every array's length from the constants here. The definitions have the same numbers in specs/Limits.antt and
 // specs/Stored.antt; where the two differ, a contract is not met.
+#![tactic(auto)]
+
 ghost use Rattle.std.specs.Prelude.{◌≡◌, ◌<◌, ◌≤◌, replicate};
 ghost use Rattle.model.specs.{Limits.variables, Command.blank, Execution.begun as Execution·begun, Execution.after_of, Execution.called_of, Execution.calls_by};
 ghost use Rattle.model.specs.{Stored.key_capacity, Stored.command_capacity, Stored.message_capacity, Stored.open_slot, Stored.absent_slot, Stored.blank_line};
@@ -63,7 +65,7 @@ pub const TEXT_ANSWER_BYTES: usize = 4 * TEXT_NUMBERS;
 // A form of sheets, which the line `sheet` chooses: the most keys, commands, messages and letters that such a sheet
 // may have, the bytes of the letters of its low turns and of the first owner's, and whether there is a second owner,
 // so that each `secret` line names one.
-#[derive(Drop)]
+#[derive(Clone, Copy)]
 pub struct Form {
     pub number: u64,
     pub keys: u64,
@@ -128,14 +130,14 @@ impl Form {
 }
 
 // An entry of a message: absent, or one number.
-#[derive(Drop)]
+#[derive(Clone, Copy)]
 pub enum Entry {
     Absent,
     Number(i32),
 }
 
 // A key's fields in the message that the executions share, one for each.
-#[derive(Drop)]
+#[derive(Clone, Copy)]
 pub struct Field {
     pub low: Entry,
     pub a: Entry,
@@ -143,21 +145,21 @@ pub struct Field {
 }
 
 // The owners of secrets. In a sheet of the first form all are A's.
-#[derive(Drop)]
+#[derive(Clone, Copy)]
 pub enum Owner {
     A,
     B,
 }
 
 // A key is open, or secret with its owner and its dummy.
-#[derive(Drop)]
+#[derive(Clone, Copy)]
 pub enum Key {
     Open,
     Secret(Owner, i32),
 }
 
 // The words of the commands.
-#[derive(Drop)]
+#[derive(Clone, Copy)]
 pub enum Op {
     Set,
     Add,
@@ -177,7 +179,7 @@ pub enum Op {
 }
 
 // A command: v and w are variables, k a key, t a target, n a number. An operand that the word lacks is 0. With a target of four bytes the fields leave no gap.
-#[derive(Drop)]
+#[derive(Clone, Copy)]
 pub struct Command {
     pub op: Op,
     pub v: u8,
@@ -188,7 +190,7 @@ pub struct Command {
 }
 
 // The operand that a part of a command's line gives.
-#[derive(Drop)]
+#[derive(Clone, Copy)]
 pub enum Operand {
     InV,
     InW,
@@ -198,7 +200,7 @@ pub enum Operand {
 }
 
 // The kind of call that a command is.
-#[derive(Drop)]
+#[derive(Clone, Copy)]
 pub enum Call {
     Neither,
     Receives,
@@ -217,14 +219,14 @@ fn calls_by(call: Call) -> usize
 }
 
 // What one of the four operations gives: the value that is stored, and 1 if its exact result lay outside the range, else 0.
-#[derive(Drop)]
+#[derive(Clone, Copy)]
 pub struct Computed {
     pub value: i32,
     pub clamps: usize,
 }
 
 // An execution's level, which is also a letter of turns: L, or that of an owner.
-#[derive(Drop)]
+#[derive(Clone, Copy)]
 pub enum Level {
     Low,
     High(Owner),
@@ -232,7 +234,7 @@ pub enum Level {
 
 // The record of one execution: its place, the calls that it has made, its clamped results, and its variables. These come last: the compiler knows that a
 // store into an array changes nothing before it.
-#[derive(Drop)]
+#[derive(Clone, Copy)]
 pub struct Execution {
     pub place: usize,
     pub calls: usize,
@@ -291,7 +293,7 @@ impl Execution {
 }
 
 // What a command does: the next place, the value for its variable, the clamped results of its execution by then, and the entry for its key.
-#[derive(Drop)]
+#[derive(Clone, Copy)]
 pub struct Effect {
     pub place: usize,
     pub value: i32,
@@ -300,14 +302,14 @@ pub struct Effect {
 }
 
 // The clock of a run: the positions used, and the low steps.
-#[derive(Drop)]
+#[derive(Clone, Copy)]
 pub struct Clock {
     pub positions: usize,
     pub steps: usize,
 }
 
 // How a run ends from its state.
-#[derive(Drop)]
+#[derive(Clone, Copy)]
 pub enum Ending {
     Stopped,
     LettersUsed,
@@ -315,7 +317,7 @@ pub enum Ending {
 }
 
 // What a run counts.
-#[derive(Drop)]
+#[derive(Clone, Copy)]
 pub struct Counts {
     pub positions: u32,
     pub steps: u32,
@@ -325,14 +327,14 @@ pub struct Counts {
 }
 
 // What a run answers: an ending with its counts, or a refusal's number and line.
-#[derive(Drop)]
+#[derive(Clone, Copy)]
 pub enum Answer {
     Ended(Ending, Counts),
     Refused(u32, u32),
 }
 
 // What the writing of a text answers: 0 or a refusal's number, the line that it names, and the bytes written. The line may be any of a text of any length.
-#[derive(Drop)]
+#[derive(Clone, Copy)]
 pub struct TextAnswer {
     pub number: u32,
     pub line: usize,
@@ -340,19 +342,19 @@ pub struct TextAnswer {
 }
 
 // One key of an array of keys.
-#[derive(Drop)]
+#[derive(Clone, Copy)]
 pub struct KeySlot {
     pub key: Key,
 }
 
 // One entry of an array of entries.
-#[derive(Drop)]
+#[derive(Clone, Copy)]
 pub struct EntrySlot {
     pub entry: Entry,
 }
 
 // A message line: the entry at each key.
-#[derive(Drop)]
+#[derive(Clone, Copy)]
 pub struct MessageLine {
     pub slots: [EntrySlot; KEY_CAPACITY],
 }
@@ -369,7 +371,7 @@ impl MessageLine {
 }
 
 // A job in arrays. Of each array only as much counts as the number beside it says; a turn letter is its byte.
-#[derive(Drop)]
+#[derive(Clone, Copy)]
 pub struct StoredJob {
     pub form: u64,
     pub keys: usize,

@@ -1,1 +1,2 @@
 // The contracts of the C entries are in specs/.
+#![tactic(auto)]

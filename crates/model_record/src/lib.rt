@@ -1,6 +1,7 @@
 // The record that a screen holds: plain numbers with C's layout, so that every pattern of bits is a record. What it says is in specs/.
 //
 // There are places for the most that any form of sheets may have, so the layout does not change with the forms: 11,608 bytes, without a gap.
+#![tactic(auto)]
 
 // The places.
 pub const KEY_PLACES: usize = 16;
@@ -18,7 +19,7 @@ pub const OWNER_B: u32 = 66;
 
 // A secret: its key, its dummy, and its owner, which is 0 in the form that names none.
 #[repr(C)]
-#[derive(Drop)]
+#[derive(Clone, Copy)]
 pub struct SecretRecord {
     pub key: u32,
     pub dummy: i32,
@@ -27,7 +28,7 @@ pub struct SecretRecord {
 
 // A command: the place of its word in the table, from 0, and its operands.
 #[repr(C)]
-#[derive(Drop)]
+#[derive(Clone, Copy)]
 pub struct CommandRecord {
     pub word: u32,
     pub v: u32,
@@ -39,7 +40,7 @@ pub struct CommandRecord {
 
 // An entry of a message: its key and its value.
 #[repr(C)]
-#[derive(Drop)]
+#[derive(Clone, Copy)]
 pub struct EntryRecord {
     pub key: u32,
     pub value: i32,
@@ -47,7 +48,7 @@ pub struct EntryRecord {
 
 // A message, of which so many entries count.
 #[repr(C)]
-#[derive(Drop)]
+#[derive(Clone, Copy)]
 pub struct MessageRecord {
     pub entry_count: u32,
     pub entries: [EntryRecord; KEY_PLACES],
@@ -55,7 +56,7 @@ pub struct MessageRecord {
 
 // A job. Of each array only as much counts as the number before it says; a turn letter is its byte.
 #[repr(C)]
-#[derive(Drop)]
+#[derive(Clone, Copy)]
 pub struct JobRecord {
     pub form: u32,
     pub keys: u32,

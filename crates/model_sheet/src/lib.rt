@@ -1,4 +1,6 @@
 // The text of a whole sheet. What it is, and what is claimed of it, is in specs/.
+#![tactic(auto)]
+
 ghost use Rattle.std.specs.Prelude.{◌≡◌};
 ghost use Rattle.model.specs.Stored.{level_of};
 ghost use Rattle.model_sheet.specs.Sheet.{letter_of};

@@ -2,6 +2,8 @@
 //
 // The word's place in the table, v, w, k, t and n, from the high bits to the low ones: 4, 3, 3, 4, 16 and 32 of them. What was command_number comes back; what
 // comes of any other number is not said.
+#![tactic(auto)]
+
 ghost use Rattle.std.specs.Prelude.{◌≡◌, ◌<◌, ◌≤◌, ℤ};
 ghost use Rattle.model.specs.{Accepted.place_of, Accepted.InRange, Stored.command_capacity};
 ghost use Rattle.pack_command.specs.Pack.{Packable, Unpacked, command_number, shifted};

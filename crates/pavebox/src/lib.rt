@@ -1,4 +1,6 @@
 // The C entries. What they do is in the crates below; each has its contract in crates/model_entry/specs.
+#![tactic(auto)]
+
 ghost use Rattle.model_entry.specs.Entry.{Answered, LogAnswered, BlocksAnswered, FormAnswered, WriteAnswered, ReadAnswered};
 ghost use Rattle.model_forms.specs.declared.Asked.TheVariants.{One, Two};
 ghost use Rattle.model_record.specs.{Claims.Shaped};

@@ -5,6 +5,8 @@
 //
 // The commands are kept as numbers in a memory that is lent. Those behind its end are counted and not kept: a text with too many commands is still read to its
 // last line.
+#![tactic(auto)]
+
 ghost use Rattle.std.specs.Prelude.{◌≡◌, ◌+◌, ◌<◌, ◌≤◌, length, take, set};
 ghost use Rattle.model.specs.{Limits.most_keys, Limits.variables, Text.find, Text.space};
 ghost use Rattle.model_blocks.specs.{Block.test_to, Block.jump_to, Block.way_of, Block.allowed, Dialect.own_command, Dialect.tested, Dialect.else_word};
@@ -23,7 +25,7 @@ use read_text::{Natural, find_byte};
 const DEEPEST: usize = 8;
 
 // Where reading stands: the start of the next line, its number, and how many commands there are so far.
-#[derive(Drop)]
+#[derive(Clone, Copy)]
 pub struct Mark {
     pub at: usize,
     pub line: usize,
@@ -32,7 +34,7 @@ pub struct Mark {
 
 // What stands at a place: a command with the blocks in it, and the place behind it; nothing, as the text is over; an `else` or an `end`, with the ends of its
 // word and of its line; or a refusal's number and line.
-#[derive(Drop)]
+#[derive(Clone, Copy)]
 pub enum Item {
     Got(Mark),
     Over,
@@ -42,7 +44,7 @@ pub enum Item {
 }
 
 // Why the lines of a block end.
-#[derive(Drop)]
+#[derive(Clone, Copy)]
 pub enum Close {
     Over,
     Else(usize, usize),
@@ -51,14 +53,14 @@ pub enum Close {
 }
 
 // The lines of a block: why they end, and where.
-#[derive(Drop)]
+#[derive(Clone, Copy)]
 pub struct Body {
     pub stop: Close,
     pub place: Mark,
 }
 
 // The count of commands of a text, or a refusal's number and line.
-#[derive(Drop)]
+#[derive(Clone, Copy)]
 pub enum Translated {
     Got(usize),
     Refused(u32, usize),

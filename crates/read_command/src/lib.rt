@@ -1,6 +1,8 @@
 // What follows `do=` in a sheet, read by the table of commands.
 //
 // The numbers of a line are read first, and the command is made of them once: a command that was passed on from part to part would go through memory.
+#![tactic(auto)]
+
 ghost use Rattle.std.specs.Prelude.{◌≡◌, ◌<◌, ◌*◌, ◌-◌};
 ghost use lib.{IntN.pos, ListN.take};
 ghost use Rattle.model.specs.{Limits.variables, Text.find, Text.space, Text.split, Number.number, Number.up_to, Command.by_row, Command.limits, Command.read_command};
@@ -20,14 +22,14 @@ const LONGEST_WORD: usize = 7;
 const SIX_BYTES: u64 = 281474976710656;
 
 // A command, or the number of the refusal.
-#[derive(Drop)]
+#[derive(Clone, Copy)]
 pub enum Line {
     Got(Command),
     Refused(u32),
 }
 
 // The parts that follow a word, by the letters of the table.
-#[derive(Drop)]
+#[derive(Clone, Copy)]
 pub enum Shape {
     K,
     T,
@@ -39,7 +41,7 @@ pub enum Shape {
 }
 
 // What the table says of a word.
-#[derive(Drop)]
+#[derive(Clone, Copy)]
 pub enum CommandWord {
     Alone(Op),
     Followed(Op, Shape),
@@ -47,14 +49,14 @@ pub enum CommandWord {
 }
 
 // The word before the first space as a number, and where it ends.
-#[derive(Drop)]
+#[derive(Clone, Copy)]
 pub struct FirstWord {
     pub code: u64,
     pub end: usize,
 }
 
 // Two natural numbers, or the number of the refusal.
-#[derive(Drop)]
+#[derive(Clone, Copy)]
 enum Two {
     Got(u64, u64),
     Refused(u32),

@@ -1,4 +1,6 @@
 // The words of the dialect: what a line's first word says, and what is left out of the table; and how a command is kept.
+#![tactic(auto)]
+
 ghost use Rattle.std.specs.Prelude.{◌≡◌, not, set};
 ghost use Rattle.model_blocks.specs.{Block.way_of, Block.allowed};
 ghost use Rattle.read_command.specs.{Command.word_as};
@@ -10,7 +12,7 @@ use pack_command::pack;
 use read_command::CommandWord;
 
 // What the first word of a line says.
-#[derive(Drop)]
+#[derive(Clone, Copy)]
 pub enum LineWord {
     If,
     Else,

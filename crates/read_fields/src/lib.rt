@@ -2,6 +2,8 @@
 // owner and a command say.
 //
 // Tests that do not guard one another are joined by `&`, so that there is no branch between them.
+#![tactic(auto)]
+
 ghost use Rattle.std.specs.Prelude.{◌≡◌, cond, ◌≤◌, take, length};
 ghost use Rattle.model.specs.Stored.{letter_capacity};
 ghost use Rattle.model.specs.Accepted.{all};
@@ -32,7 +34,7 @@ pub fn owner_of(owner: u32) -> Owner
 }
 
 // The most that each operand of a word may be, and whether the word has a number: an operand that it lacks is 0.
-#[derive(Drop)]
+#[derive(Clone, Copy)]
 struct Limits {
     pub v: u32,
     pub w: u32,

@@ -1,4 +1,6 @@
 // The first lines of a sheet: `sheet` and `keys`, which hold one number, and the `secret` lines.
+#![tactic(auto)]
+
 ghost use Rattle.std.specs.Prelude.{◌+◌, ◌<◌, ◌≤◌, length};
 ghost use Rattle.model.specs.Stored.{key_capacity};
 ghost use Rattle.read_head.specs.Head.{NumberRead, SecretsRead};
@@ -8,14 +10,14 @@ use read_line::{Found, Phase, first_line};
 use read_secret::{Secret, read_secret};
 use read_text::{Natural, from_one};
 
-#[derive(Drop)]
+#[derive(Clone, Copy)]
 pub struct NumberLine {
     pub phase: Phase,
     pub value: u64,
 }
 
 // The keys, and the least one that a further `secret` line may name.
-#[derive(Drop)]
+#[derive(Clone, Copy)]
 pub struct Secrets {
     pub phase: Phase,
     pub least: u64,

@@ -1,4 +1,6 @@
 // The line that refusal 2 names, the first line of a text by its name, and what the readers of lines answer.
+#![tactic(auto)]
+
 ghost use Rattle.std.specs.Prelude.{◌≡◌, ◌&&◌, not, min};
 ghost use lib.{Dec.leb, ListN.length};
 ghost use Rattle.model.specs.{Text.between as Text·between, Text.class_of, Sheet.closed};
@@ -14,21 +16,21 @@ const FORBIDDEN_CLASS: u8 = 10;
 const AT_ONCE: usize = 16;
 
 // Where a first line of the name has what follows its equals sign: from a place to that of its line feed. Or the first line is another, or there is none.
-#[derive(Drop)]
+#[derive(Clone, Copy)]
 pub enum Found {
     At(usize, usize),
     Other,
 }
 
 // Whether a line was read, or the number of its refusal. What was read stands beside it.
-#[derive(Drop)]
+#[derive(Clone, Copy)]
 pub enum Checked {
     Got,
     Refused(u32),
 }
 
 // How far a phase came: the number of the line after it, and where in its text that line starts. Or the number of its refusal, and its line.
-#[derive(Drop)]
+#[derive(Clone, Copy)]
 pub enum Phase {
     Got(u32, usize),
     Refused(u32, u32),

@@ -1,4 +1,6 @@
 // The belt log's export: rows that carriage return and line feed end, fields that commas divide; the keys of the first row, the messages of the others.
+#![tactic(auto)]
+
 ghost use Rattle.std.specs.Prelude.{◌≡◌, [], ◌≤◌, length, take, replicate};
 ghost use Rattle.model.specs.{Text.comma, Text.split};
 ghost use Rattle.model.specs.declared.Entry.TheVariants.{Absent};
@@ -19,21 +21,21 @@ pub const LOG_KEYS: usize = 8;
 const GREATEST_KEY: u64 = 7;
 
 // The first row of a text: the place of its end and the count of its fields; or the number of its refusal.
-#[derive(Drop)]
+#[derive(Clone, Copy)]
 pub enum Row {
     Got(usize, usize),
     Refused(u32),
 }
 
 // A field that was read, or the number of its refusal.
-#[derive(Drop)]
+#[derive(Clone, Copy)]
 pub enum Field {
     Got(Entry),
     Refused(u32),
 }
 
 // The first count keys of the array, which count where they were read.
-#[derive(Drop)]
+#[derive(Clone, Copy)]
 pub struct Keys {
     pub checked: Checked,
     pub count: usize,
@@ -41,7 +43,7 @@ pub struct Keys {
 }
 
 // The message of a text's first row, which counts where it was read, and the bytes up to the next row.
-#[derive(Drop)]
+#[derive(Clone, Copy)]
 pub struct Taken {
     pub checked: Checked,
     pub line: MessageLine,
@@ -49,14 +51,14 @@ pub struct Taken {
 }
 
 // How reading went: all of it, or a refusal's number and row.
-#[derive(Drop)]
+#[derive(Clone, Copy)]
 pub enum Status {
     Got,
     Refused(u32, u32),
 }
 
 // The first count messages of the array.
-#[derive(Drop)]
+#[derive(Clone, Copy)]
 pub struct Log {
     pub status: Status,
     pub count: usize,

@@ -1,4 +1,6 @@
 // The `msg` lines, each made of `key:value` parts.
+#![tactic(auto)]
+
 ghost use Rattle.std.specs.Prelude.{◌≡◌, ◌+◌, ◌<◌, ◌≤◌, length};
 ghost use Rattle.model.specs.{Messages.message_line, Stored.key_capacity, Form.Fits};
 ghost use Rattle.read_messages.specs.Messages.{message_as, MessagesRead};
@@ -9,14 +11,14 @@ use read_pair::{Pair, read_pair};
 use read_text::find_byte;
 
 // A message line, which counts where it was read.
-#[derive(Drop)]
+#[derive(Clone, Copy)]
 pub struct Message {
     pub checked: Checked,
     pub line: MessageLine,
 }
 
 // The first count messages of the array.
-#[derive(Drop)]
+#[derive(Clone, Copy)]
 pub struct Messages {
     pub phase: Phase,
     pub count: usize,

@@ -1,4 +1,6 @@
 // One `key:value`, as a `secret` line holds one and a `msg` line several.
+#![tactic(auto)]
+
 ghost use Rattle.std.specs.Prelude.{◌≡◌, ◌<◌, ◌≤◌};
 ghost use Rattle.model.specs.Pair.{pair};
 ghost use Rattle.read_pair.specs.Pair.{pair_as};
@@ -6,7 +8,7 @@ ghost use Rattle.read_pair.specs.Pair.{pair_as};
 use read_text::{Natural, Whole, find_byte, number_of, up_to};
 
 // A `key:value` that was read, or the number of its refusal.
-#[derive(Drop)]
+#[derive(Clone, Copy)]
 pub enum Pair {
     Got(u64, i32),
     Refused(u32),

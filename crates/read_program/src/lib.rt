@@ -1,4 +1,6 @@
 // The `do` lines of a sheet, and the targets of its commands.
+#![tactic(auto)]
+
 ghost use Rattle.std.specs.Prelude.{◌+◌, ◌<◌, ◌≤◌, length};
 ghost use Rattle.model.specs.Form.{Fits};
 ghost use Rattle.read_program.specs.Program.{CommandsRead, FirstFar};
@@ -8,7 +10,7 @@ use read_command::{Line, read_command};
 use read_line::{Found, Phase, first_line};
 
 // The first count commands of the array.
-#[derive(Drop)]
+#[derive(Clone, Copy)]
 pub struct Commands {
     pub phase: Phase,
     pub count: usize,

@@ -1,6 +1,8 @@
 // The job that a record says, unless a number, a count, a letter or the order of the keys is not as it must be.
 //
 // A count is tested before anything that it covers is looked at. Tests that do not guard one another are joined by `&`, so that there is no branch between them.
+#![tactic(auto)]
+
 ghost use Rattle.std.specs.Prelude.{◌≡◌, false, ◌≤◌, take, length};
 ghost use Rattle.model.specs.{Stored.key_capacity, Stored.command_capacity, Stored.message_capacity, Stored.nothing_stored};
 ghost use Rattle.model_record.specs.Record.{counts_fit};
@@ -17,32 +19,32 @@ use model_record::{
 use read_fields::{command_fits, command_of, letters_fit, owner_fits, owner_of};
 
 // Whether what was looked at is as it must be, and what it says then.
-#[derive(Drop)]
+#[derive(Clone, Copy)]
 struct Keys {
     pub fit: bool,
     pub slots: [KeySlot; KEY_CAPACITY],
 }
 
-#[derive(Drop)]
+#[derive(Clone, Copy)]
 struct Commands {
     pub fit: bool,
     pub commands: [Command; COMMAND_CAPACITY],
 }
 
-#[derive(Drop)]
+#[derive(Clone, Copy)]
 struct Line {
     pub fit: bool,
     pub slots: [EntrySlot; KEY_CAPACITY],
 }
 
-#[derive(Drop)]
+#[derive(Clone, Copy)]
 struct Messages {
     pub fit: bool,
     pub messages: [MessageLine; MESSAGE_CAPACITY],
 }
 
 // The job counts where the record passes. Where it does not, it is the job whose counts are all 0.
-#[derive(Drop)]
+#[derive(Clone, Copy)]
 pub struct Taken {
     pub passes: bool,
     pub job: StoredJob,

@@ -1,4 +1,6 @@
 // What a `secret` line says: a key, a dummy and, in the form that names them, an owner.
+#![tactic(auto)]
+
 ghost use Rattle.std.specs.Prelude.{◌<◌, ◌≤◌, ◌≡◌, true};
 ghost use Rattle.model.specs.Head.{owner, secret};
 ghost use Rattle.read_secret.specs.Secret.{named_as, secret_as};
@@ -8,7 +10,7 @@ use read_pair::{Pair, read_pair};
 use read_text::find_byte;
 
 // The owner that a text names.
-#[derive(Drop)]
+#[derive(Clone, Copy)]
 enum Named {
     Got(Owner),
     Refused(u32),
@@ -31,7 +33,7 @@ fn owner_of(s: &[u8]) -> Named
 }
 
 // A secret that was read: its key, owner and dummy.
-#[derive(Drop)]
+#[derive(Clone, Copy)]
 pub enum Secret {
     Got(u64, Owner, i32),
     Refused(u32),

@@ -1,4 +1,6 @@
 // A whole sheet: the job that it says, or the refusal that comes first.
+#![tactic(auto)]
+
 ghost use Rattle.std.specs.Prelude.{◌≡◌, ◌+◌, ◌≤◌, length, take};
 ghost use Rattle.model.specs.{Limits.most_bytes, Text.lines, Stored.keys_in, Stored.Stored, Stored.job_of, Form.form_of, Form.Fits, Sheet.refused, Sheet.targets};
 ghost use Rattle.model.specs.{Sheet.read_body, Sheet.read_lines, Sheet.read_sheet};
@@ -11,14 +13,14 @@ use read_messages::read_messages;
 use read_program::{first_far, read_commands};
 use read_turns::read_turns;
 
-#[derive(Drop)]
+#[derive(Clone, Copy)]
 pub enum Status {
     Got,
     Refused(u32, u32),
 }
 
 // The job counts where the sheet was read. Where it is refused, it is the job whose counts are all 0.
-#[derive(Drop)]
+#[derive(Clone, Copy)]
 pub struct Read {
     pub status: Status,
     pub job: StoredJob,

@@ -1,4 +1,6 @@
 // Bytes and numbers of a sheet.
+#![tactic(auto)]
+
 ghost use Rattle.std.specs.Prelude.{◌≡◌, ◌<◌};
 ghost use Rattle.model.specs.{Text.find, Number.digits_to, Number.up_to, Number.from_one, Number.negative, Number.positive, Number.number};
 ghost use Rattle.read_text.specs.Text.{natural_as, whole_as};
@@ -7,14 +9,14 @@ ghost use Rattle.model_text.specs.Found.{starts};
 use model::{GREATEST_NUMBER, LEAST_NUMBER};
 
 // A number from 0 to a limit, or the number of its refusal.
-#[derive(Drop)]
+#[derive(Clone, Copy)]
 pub enum Natural {
     Got(u64),
     Refused(u32),
 }
 
 // A number of the full range, or the number of its refusal.
-#[derive(Drop)]
+#[derive(Clone, Copy)]
 pub enum Whole {
     Got(i32),
     Refused(u32),

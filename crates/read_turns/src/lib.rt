@@ -1,4 +1,6 @@
 // The line `turns`, its letters tested and copied in one pass, and nothing after it.
+#![tactic(auto)]
+
 ghost use Rattle.std.specs.Prelude.{◌≡◌, ◌+◌, ◌<◌, length};
 ghost use Rattle.model.specs.Form.{Fits, third_of};
 ghost use Rattle.read_turns.specs.Turns.{LetterKnown, Tells, LettersCopied, TurnsRead};
@@ -8,7 +10,7 @@ use read_line::{Checked, Found, Phase, first_line};
 use read_text::find_byte;
 
 // The first count letters of the array.
-#[derive(Drop)]
+#[derive(Clone, Copy)]
 pub struct Turns {
     pub phase: Phase,
     pub count: usize,
@@ -16,7 +18,7 @@ pub struct Turns {
 }
 
 // The first count letters of the array, where they were read.
-#[derive(Drop)]
+#[derive(Clone, Copy)]
 struct Letters {
     pub checked: Checked,
     pub count: usize,

@@ -1,6 +1,8 @@
 // Takes a sheet from standard input, or from the file that its second argument names, and prints it in the form that
 // its first argument says, 1 or 2; standard error gets `answer=` with the number, the line and the bytes written. As
 // much is lent as any sheet needs. One byte more than the largest sheet is read, so that a longer one is refused.
+#![tactic(auto)]
+
 use input::Text;
 use libc::STDERR_FILENO;
 use model::MOST_BYTES;

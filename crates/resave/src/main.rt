@@ -1,6 +1,8 @@
 // Takes a sheet from standard input, or from the file that its argument names, opens it as the screen does and saves it again: prints the saved sheet, and standard
 // error gets `answer=` with the number, the line and the bytes written. As much is lent as any sheet needs. One byte more than the largest sheet is read, so that
 // a longer one is refused.
+#![tactic(auto)]
+
 use input::Text;
 use libc::STDERR_FILENO;
 use model::MOST_BYTES;

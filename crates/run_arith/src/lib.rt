@@ -1,4 +1,6 @@
 // The arithmetic of the commands: i32 through i64, so that every result is exact before it is clamped. Each says whether that lay outside the range.
+#![tactic(auto)]
+
 ghost use Rattle.std.specs.Prelude.{◌≡◌};
 ghost use Rattle.model_run.specs.Arith.{clamp as Arith·clamp, computed as Arith·computed, sum, difference, product, quotient};
 

@@ -1,4 +1,6 @@
 // The run: three executions over one message, turn by turn, to an ending.
+#![tactic(auto)]
+
 ghost use Rattle.std.specs.Prelude.{◌≡◌, length};
 ghost use Rattle.model_run.specs.{Run.run_job, Whole.left, Whole.left_by};
 ghost use Rattle.model.specs.{Stored.job_of, Stored.Stored, Accepted.Sound};

@@ -1,4 +1,6 @@
 // The fields of the message: as a receive fills them, and as a command of one level reads and changes them.
+#![tactic(auto)]
+
 ghost use Rattle.std.specs.Prelude.{◌≡◌, cond};
 ghost use Rattle.model.specs.Stored.{absent_field, side as Field·side, with_side};
 ghost use Rattle.model_run.specs.Message.{shown};

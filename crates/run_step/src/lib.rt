@@ -1,4 +1,6 @@
 // One command of one execution.
+#![tactic(auto)]
+
 ghost use Rattle.std.specs.Prelude.{◌≡◌, cond, ◌<◌, ◌≤◌};
 ghost use lib.{IntN.pos, Signed.lt_z};
 ghost use Rattle.model.specs.{Limits.variables, Number.is_zero};

@@ -1,4 +1,6 @@
 // The parts of one turn that are no command: whose turn it is, whether a high execution waits, what a receive takes, the clock, the answer of a run that ends.
+#![tactic(auto)]
+
 ghost use Rattle.std.specs.Prelude.{◌≡◌, cond, ◌+◌, ◌<◌, ◌≤◌, ltb};
 ghost use Rattle.model_run.specs.{Verdict.waits as Verdict·waits, State.role, State.steps_by, State.started as Clock·started, State.ticked as Clock·ticked};
 ghost use Rattle.model.specs.{Stored.level_of, Stored.kind_of};

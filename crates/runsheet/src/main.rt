@@ -1,5 +1,7 @@
 // Reads a sheet from standard input, runs it on 32,768 bytes, and prints the sent lines and the seven numbers. One byte more than the largest sheet is
 // read, so that a longer one is refused. Where a read fails, nothing is run and standard error says so.
+#![tactic(auto)]
+
 use libc::{STDERR_FILENO, STDIN_FILENO};
 use model::MOST_BYTES;
 use terminal::Input;

@@ -1,4 +1,6 @@
 // A job written as a sheet into lent memory, whole or not at all.
+#![tactic(auto)]
+
 ghost use Rattle.std.specs.Prelude.{◌≡◌};
 ghost use Rattle.model.specs.{Stored.Stored, Stored.job_of, Accepted.Sound, Written.text, Written.written, Written.write};
 ghost use Rattle.model_sheet.specs.Sheet.{sheet_text};

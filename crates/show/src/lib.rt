@@ -1,4 +1,6 @@
 // What `runsheet` does with a sheet: run and printed.
+#![tactic(auto)]
+
 ghost use Rattle.std.specs.Prelude.{◌≡◌};
 ghost use Rattle.model_run.specs.{Whole.left, Whole.run_sheet};
 

@@ -1,4 +1,6 @@
 // What `blocks` does with a program with blocks: written as lines and printed.
+#![tactic(auto)]
+
 ghost use Rattle.std.specs.Prelude.{◌≡◌};
 ghost use Rattle.model.specs.{Written.written};
 ghost use Rattle.model_blocks.specs.Dialect.{write_blocks};

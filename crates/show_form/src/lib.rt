@@ -1,4 +1,6 @@
 // What `reform` does with a sheet: turned into the form asked for and printed.
+#![tactic(auto)]
+
 ghost use Rattle.std.specs.Prelude.{◌≡◌};
 ghost use Rattle.model.specs.{Written.written};
 ghost use Rattle.model_forms.specs.Forms.{turn_sheet};

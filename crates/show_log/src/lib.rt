@@ -1,4 +1,6 @@
 // What `beltlog` does with an export of the belt log: written as lines and printed.
+#![tactic(auto)]
+
 ghost use Rattle.std.specs.Prelude.{◌≡◌};
 ghost use Rattle.model.specs.{Written.written};
 ghost use Rattle.model_log.specs.Log.{write_log};

@@ -1,4 +1,6 @@
 // What `resave` does with a sheet: opened, saved again and printed.
+#![tactic(auto)]
+
 ghost use Rattle.std.specs.Prelude.{◌≡◌};
 ghost use Rattle.model.specs.{Written.written};
 ghost use Rattle.whole_record.specs.Opened.{resaved};

@@ -1,4 +1,6 @@
 // What the programs read from standard input and print.
+#![tactic(auto)]
+
 ghost use Rattle.std.specs.Prelude.{length};
 ghost use Rattle.terminal.specs.Input.{WithinBuffer};
 
@@ -6,7 +8,7 @@ use libc::{STDERR_FILENO, STDOUT_FILENO};
 use model::{NUMBERS, TEXT_NUMBERS};
 
 // So many bytes were read before the input ended or the buffer was full; or a read failed.
-#[derive(Drop)]
+#[derive(Clone, Copy)]
 pub enum Input {
     Got(usize),
     Failed,

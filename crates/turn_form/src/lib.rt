@@ -1,4 +1,6 @@
 // A job of one form made one of the other: only the number of its form changes.
+#![tactic(auto)]
+
 ghost use Rattle.std.specs.Prelude.{◌≡◌, map, ◌≤◌, take};
 ghost use Rattle.model.specs.{Stored.key_capacity, Stored.letter_capacity, Stored.keys_in, Stored.level_of, Stored.Stored, Stored.job_of, Accepted.Sound, Accepted.all};
 ghost use Rattle.model_change.specs.Changed.{Comes};

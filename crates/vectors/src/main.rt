@@ -1,5 +1,7 @@
 // Runs the sheets of the file stdin, which a byte 0 ends each, once on 32,768 bytes and once on 100; the file stdout has what a model written apart from
 // this code prints for them.
+#![tactic(auto)]
+
 use libc::STDIN_FILENO;
 
 fn run_each(sheets: &[u8], output: &mut [u8], few: &mut [u8]) {

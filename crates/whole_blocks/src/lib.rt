@@ -1,4 +1,6 @@
 // A program with blocks: read, then the commands of its translation written as lines.
+#![tactic(auto)]
+
 ghost use Rattle.std.specs.Prelude.{◌≡◌};
 ghost use Rattle.model.specs.Written.{written};
 ghost use Rattle.model_blocks.specs.Dialect.{write_blocks};

@@ -1,4 +1,6 @@
 // A sheet read, and written in the form asked for.
+#![tactic(auto)]
+
 ghost use Rattle.std.specs.Prelude.{◌≡◌};
 ghost use Rattle.model.specs.Written.{written};
 ghost use Rattle.model_forms.specs.Forms.{turn_sheet};

@@ -1,4 +1,6 @@
 // An export of the belt log: read, then its messages written as lines.
+#![tactic(auto)]
+
 ghost use Rattle.std.specs.Prelude.{◌≡◌};
 ghost use Rattle.model.specs.Written.{written};
 ghost use Rattle.model_log.specs.Log.{write_log};

@@ -1,4 +1,6 @@
 // The screen's record: saved as a sheet, and made of one.
+#![tactic(auto)]
+
 ghost use Rattle.std.specs.Prelude.{◌≡◌};
 ghost use Rattle.model.specs.{Written.written, Sheet.read_sheet};
 ghost use Rattle.model_record.specs.{Claims.Shaped, Entry.write_record};
@@ -27,7 +29,7 @@ pub fn save_record(r: JobRecord, output: &mut [u8]) -> TextAnswer
 }
 
 // What opening a sheet gives: whether it was read, 0 or a refusal's number, the line that it names, and the record.
-#[derive(Drop)]
+#[derive(Clone, Copy)]
 pub struct Opened {
     pub read: bool,
     pub number: u32,

@@ -1,4 +1,6 @@
 // A whole sheet: read, then run.
+#![tactic(auto)]
+
 ghost use Rattle.std.specs.Prelude.{◌≡◌};
 ghost use Rattle.model_run.specs.Whole.{left, run_sheet};
 

@@ -1,4 +1,6 @@
 // The numbers of an answer, and their bytes.
+#![tactic(auto)]
+
 ghost use Rattle.std.specs.Prelude.{◌≡◌, ◌+◌, ◌≤◌, length};
 ghost use Rattle.model.specs.{Placed.placed, Answer.numbers_of, Answer.ending_number, Answer.le32, Answer.all_le32, Answer.bytes_for, Written.low_numbers};
 

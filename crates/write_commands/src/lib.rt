@@ -1,4 +1,6 @@
 // Command lines as a sheet has them.
+#![tactic(auto)]
+
 ghost use Rattle.std.specs.Prelude.{◌≡◌, [], ◌∷◌, ◌≤◌, take};
 ghost use Rattle.model.specs.{Text.space, Stored.command_capacity};
 ghost use Rattle.model_text.specs.Text.{operand_text, command_text, command_lines};

@@ -1,4 +1,6 @@
 // The first lines of a sheet: `sheet` and `keys`, and a `secret` line with its owner where it is named.
+#![tactic(auto)]
+
 ghost use Rattle.std.specs.Prelude.{◌≡◌, ◌<◌, ◌≤◌};
 ghost use Rattle.model.specs.{Limits.forms, Stored.key_capacity};
 ghost use Rattle.model_sheet.specs.Sheet.{head_lines, owner_letter, owner_text};

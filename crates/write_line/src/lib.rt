@@ -1,4 +1,6 @@
 // The parts of a sent line, written into the output memory: its heading, the cell of each key, the line feed.
+#![tactic(auto)]
+
 ghost use Rattle.std.specs.Prelude.{◌≡◌, ◌∷◌, ◌+◌, ◌*◌, ◌≤◌, ◌<◌};
 ghost use lib.{ListN.length, ListN.set, ListN.replicate, IntN.nat_abs};
 ghost use Rattle.model.specs.{Text.line_feed, Text.space, Text.dot, Decimal.digits, Placed.placed, Stored.side, Stored.key_capacity};

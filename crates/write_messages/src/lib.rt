@@ -1,4 +1,6 @@
 // Message lines as a sheet has them.
+#![tactic(auto)]
+
 ghost use Rattle.std.specs.Prelude.{map, ◌<◌, ◌≤◌, take};
 ghost use Rattle.model.specs.Stored.{key_capacity, message_capacity, first_of, entry_in, entries_in};
 ghost use Rattle.model_text.specs.Text.{pair_text, message_text, message_lines};

@@ -1,4 +1,6 @@
 // A job as a record, over an old one: what the counts do not cover keeps its bytes.
+#![tactic(auto)]
+
 ghost use Rattle.std.specs.Prelude.{◌≡◌, map, ◌≤◌, take};
 ghost use Rattle.model.specs.{Limits.forms, Placed.front, Stored.key_capacity, Stored.command_capacity, Stored.message_capacity, Stored.letter_capacity, Stored.Stored, Stored.job_of};
 ghost use Rattle.model.specs.Stored.{keys_in, entries_in, level_of};
@@ -18,7 +20,7 @@ use model_sheet::letter_of;
 use pack_command::number_of;
 
 // So many secrets, at the front of their array.
-#[derive(Drop)]
+#[derive(Clone, Copy)]
 struct Secrets {
     pub count: u32,
     pub secrets: [SecretRecord; KEY_PLACES],

@@ -1,4 +1,6 @@
 // A job as a sheet: its lines in the order of document 01.
+#![tactic(auto)]
+
 ghost use Rattle.std.specs.Prelude.{map, ◌≤◌, take};
 ghost use Rattle.model.specs.{Stored.key_capacity, Stored.letter_capacity, Stored.keys_in, Stored.level_of, Stored.job_of};
 ghost use Rattle.model_sheet.specs.Sheet.{secret_lines, letter_of, turns_lines, sheet_text};

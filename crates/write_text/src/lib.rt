@@ -2,6 +2,8 @@
 //
 // What begins with `put` gives the place behind its text. Put into no memory at all, a text is counted and nothing is stored: so one function both tells a
 // text's length and writes it.
+#![tactic(auto)]
+
 ghost use Rattle.std.specs.Prelude.{◌≡◌, [], ◌∷◌, ◌+◌, ◌≤◌};
 ghost use lib.{ListN.length, IntN.nat_abs};
 ghost use Rattle.model.specs.{Placed.placed, Decimal.digits, Decimal.width, Decimal.natural, Decimal.whole};

@@ -1,4 +1,6 @@
 // What the table says of a command's word, and the numbers of its operands.
+#![tactic(auto)]
+
 ghost use Rattle.std.specs.Prelude.{◌≡◌, ◌++◌};
 ghost use Rattle.model.specs.{Decimal.natural};
 ghost use Rattle.model_text.specs.Text.{operand_text};
@@ -9,7 +11,7 @@ use model::{Command, Op, Operand};
 use write_text::magnitude;
 
 // The operands that follow a word.
-#[derive(Drop)]
+#[derive(Clone, Copy)]
 pub enum Operands {
     None,
     One(Operand),
@@ -17,7 +19,7 @@ pub enum Operands {
 }
 
 // What the table says of a word: its letters, how many of these bytes they are, and its operands.
-#[derive(Drop)]
+#[derive(Clone, Copy)]
 pub struct Wording(pub [u8; 7], pub usize, pub Operands);
 
 pub fn wording_of(op: Op) -> Wording
@@ -43,7 +45,7 @@ pub fn wording_of(op: Op) -> Wording
 }
 
 // An operand's number by its sign and its size.
-#[derive(Drop)]
+#[derive(Clone, Copy)]
 pub struct Value {
     pub minus: bool,
     pub size: u32,
@@ -74,14 +76,14 @@ fn unsigned(size: u32) -> Value
 }
 
 // An operand, or none.
-#[derive(Drop)]
+#[derive(Clone, Copy)]
 pub enum Part {
     None,
     Of(Operand),
 }
 
 // Operands as two parts, of which the first or both may be none: so what puts an operand stands in the code twice and not three times.
-#[derive(Drop)]
+#[derive(Clone, Copy)]
 pub struct Parts(pub Part, pub Part);
 
 pub fn parts_of(os: Operands) -> Parts
