@@ -188,7 +188,7 @@ forbidden-allowed n (b ∷ s) l h = go (eqb (class_of b) forbidden_class) (λ m 
 allowed-forbidden : (n : ℕ) (s : List ℕ) → Every Allowed s → forbidden_line n s ≡ 0
 unfolding forbidden_line
 allowed-forbidden n [] h = refl
-allowed-forbidden n (b ∷ s) h = rw h.0 (allowed-forbidden _ s h.1)
+allowed-forbidden n (b ∷ s) h = rw h.0 (allowed-forbidden (cond (eqb b line_feed) (n + 1) n) s h.1)
 
 differs : (t : Bool) (x y : ℕ) → (x ≡ forbidden_class → ⊥) → (y ≡ forbidden_class → ⊥) → cond t x y ≡ forbidden_class → ⊥
 differs true x y f g e = f e
