@@ -128,7 +128,8 @@ spread (suc m) i (kv ∷ ps) h = go (ℕ_discrete kv.0 i) (λ qs r. spread m (su
         record { entries = Number kv.1 ∷ s.entries; count = ap suc s.count; same = λ j. (sym e j, kv.1) ∷ s.same j }
     go (no n) rest =
         let first = rising-first (i + suc m) i kv.0 (keys_in ps) h in
-        let s = rest (kv ∷ ps) (rw more (rising-later (i + suc m) i kv.0 (keys_in ps) (let a = first.0 in omega arith) h)) in
+        let later = rising-later (i + suc m) i kv.0 (keys_in ps) (let a = first.0 in omega arith) h in
+        let s = rest (kv ∷ ps) (subst (λ (x : ℕ). rising x (suc i) (keys_in (kv ∷ ps)) ≡ true) (sym more) later) in
         record { entries = Absent ∷ s.entries; count = ap suc s.count; same = s.same }
 
 -- the pairs come back

@@ -41,4 +41,4 @@ pub returns : goal.returns
 returns c =
     let p = (goal.at.returns c).After-put_if-part in
     let s = (goal.at.After-put_if-part p).Start in
-    rw (text s) (put_then p.put_if.ensures (rw (to_z-of_z {w = w32} s.ranges.v) at c.put_pair.ensures))
+    rw (text s) (put_then p.put_if-part.ensures (rw (to_z-of_z {w = w32} s.ranges.v) at c.put_pair.ensures))
