@@ -154,7 +154,7 @@ fn read_own(l: &[u8], keys: u64, p: Mark, w: FirstWord, out: &mut [u64]) -> Item
 }
 
 // The lines of a block from a place on, up to the first that does not stand in it.
-#[cycle(read_block_read_item_read_nested_read_other)]
+#[cycle(blocks)]
 fn read_block(s: &[u8], keys: u64, depth: usize, from: Mark, out: &mut [u64]) -> Body
     requires { Sane s.now keys depth from out.old }
     ensures { BlockRead keys depth s.now from out.old out.new result }
@@ -188,7 +188,7 @@ fn read_block(s: &[u8], keys: u64, depth: usize, from: Mark, out: &mut [u64]) ->
 }
 
 // What stands at a place: by the first word of the line there.
-#[cycle(read_block_read_item_read_nested_read_other)]
+#[cycle(blocks)]
 fn read_item(s: &[u8], keys: u64, depth: usize, p: Mark, out: &mut [u64]) -> Item
     requires { Sane s.now keys depth p out.old }
     ensures { ItemRead keys depth s.now p out.old out.new result }
@@ -211,7 +211,7 @@ fn read_item(s: &[u8], keys: u64, depth: usize, p: Mark, out: &mut [u64]) -> Ite
 }
 
 // An `if` or a `while` at a place, with its blocks. The test is kept once it is known where the first block ends.
-#[cycle(read_block_read_item_read_nested_read_other)]
+#[cycle(blocks)]
 fn read_nested(
     s: &[u8],
     keys: u64,
@@ -263,7 +263,7 @@ fn read_nested(
 }
 
 // An `else` at a place, whose word ends at f and whose line at e, and the block behind it. The test of its `if` is at the place test.
-#[cycle(read_block_read_item_read_nested_read_other)]
+#[cycle(blocks)]
 fn read_other(
     s: &[u8],
     keys: u64,
