@@ -9,11 +9,11 @@ use Rattle.model.specs.declared.Command.{Command}
 use Rattle.model.proofs.Placed.{placed-front}
 use Rattle.model_text.specs.Text.{command_lines}
 use Rattle.model_blocks.specs.{Block.Block, Block.places, Block.commands_of, Dialect.tree, Dialect.read_blocks, Dialect.write_blocks}
-use Rattle.model_blocks.proofs.{Read.well-read, Within.count-is-places, Within.commands-within, Sheet.blocks-short, Cases.when-many, Cases.when-short, Cases.when-fits}
+use Rattle.model_blocks.proofs.{Read.well-read, Within.count-is-places, Within.commands-within, Sheet.blocks-short, Cases.when-many, Cases.when-refused, Cases.when-short, Cases.when-fits}
 use Rattle.pack_command.specs.Pack.{Packable, Unpacked}
 use Rattle.read_blocks.specs.Blocks.{ProgramRead}
 use Rattle.read_blocks.specs.declared.Translated.{Translated}
-use Rattle.read_blocks.specs.declared.Translated.TheVariants.{Got}
+use Rattle.read_blocks.specs.declared.Translated.TheVariants.{Got, Refused}
 use Rattle.write_text.specs.Put.{Put}
 
 -- commands within their limits have room in a number
@@ -38,6 +38,10 @@ program-as K s m m' r h e = subst (ProgramRead K s m m') e h
 pub too_many : (K : ℕ) (s m m' o : List ℕ) (n : ℕ) → ProgramRead K s m m' (Got n) → most_commands < n → write_blocks K s o ≡ untouched 53 0 o
 unfolding ProgramRead
 too_many K s m m' o n h l = when-many K s o h.0 h.1 (omega (arith, h.2))
+
+pub refused-read : (K : ℕ) (s m m' o : List ℕ) (n l : ℕ) → ProgramRead K s m m' (Refused n l) → write_blocks K s o ≡ untouched n l o
+unfolding ProgramRead
+refused-read K s m m' o n l h = when-refused K s o n l h
 
 -- the first n commands are those of a text
 pub record Recovered (K : ℕ) (s : List ℕ) (n : ℕ) (commands : List Command) : Type 0 where
