@@ -131,7 +131,7 @@ read_nested-returns-then-looping t c = nested-while (opened t (goal.at.read_nest
 
 pub read_nested-read_other-requires : goal.read_nested-read_other-requires
 unfolding NestedRead StoppedAt
-read_nested-read_other-requires t c = 
+read_nested-read_other-requires t c =
     let h = c.requires.0 in
     let b = (body_at t (goal.at.read_nested-read_other-requires t c).After-read_block-body c.in-Else.is) in
     let g = b.0 in (
@@ -169,7 +169,7 @@ read_nested-next_line-requires-then-looping-2 t c = let b = (body_at t (goal.at.
 
 pub read_nested-returns-then-looping-2 : goal.read_nested-returns-then-looping-2
 unfolding NestedRead StoppedAt
-read_nested-returns-then-looping-2 t c = 
+read_nested-returns-then-looping-2 t c =
     nested-loop (opened t (goal.at.read_nested-returns-then-looping-2 t c).In-Got) (body_at t (goal.at.read_nested-returns-then-looping-2 t c).After-read_block-body c.in-End.is) c.if-f-e.false c.requires.0.short c.if-looping-2.true c.read_block-body.auto.out
     c.next_line-then-looping-2.ensures c.keep.ensures c.test_to.ensures c.keep-then-looping-2.ensures c.jump_to.ensures
 
@@ -187,7 +187,7 @@ read_nested-next_line-requires-in-End t c = let b = (body_at t (goal.at.read_nes
 
 pub read_nested-returns-in-Refused : goal.read_nested-returns-in-Refused
 unfolding NestedRead StoppedAt
-read_nested-returns-in-Refused t c = 
+read_nested-returns-in-Refused t c =
     let s = c.args.s.now in
     let a = c.args.from.at in
     opens-bad _ _ _ _ _ _ c.args.looping c.requires.1 c.if-depth-ge-DEEPEST.false _ (variable-at s _ a c.args.word c.args.end (rest s a) c.variable_of.ensures c.in-Refused.is)
@@ -248,6 +248,6 @@ read_other-returns-in-Else t c = other-else _ _ _ _ _ _ c.requires.1 c.if-f-e.fa
 
 pub read_other-returns-else-g-d : goal.read_other-returns-else-g-d
 unfolding OtherRead StoppedAt
-read_other-returns-else-g-d t c = 
+read_other-returns-else-g-d t c =
     other-closed _ _ _ _ _ _ c.requires.1 c.if-f-e.false c.args.v c.args.test (other_at t (goal.at.read_other-returns-else-g-d t c).After-read_block-body c.in-End.is) c.if-g-d.false c.requires.0.short
     c.read_block-body.auto.out c.requires.2.test c.next_line-in-End.ensures c.keep.ensures c.test_to.ensures c.keep-in-End.ensures c.jump_to.ensures

@@ -27,9 +27,9 @@ loop-i-preserved c =
     let k = c.class_of.ensures in (
       omega arith,
       elim c.if-class_of-eq-FORBIDDEN_CLASS.branch [
-        then-class_of-eq-FORBIDDEN_CLASS w ↦
+        | then-class_of-eq-FORBIDDEN_CLASS w ↦
             rw w.found-is (found-now l.found _ _ l.invariant.1 (forbids-here s l.i h (sym k ∙ w.if-class_of-eq-FORBIDDEN_CLASS.true)))
-      | else-class_of-eq-FORBIDDEN_CLASS w ↦
+        | else-class_of-eq-FORBIDDEN_CLASS w ↦
             rw (w.found-is, ← forbids-next s l.i h (λ e. w.if-class_of-eq-FORBIDDEN_CLASS.false (k ∙ e))) l.invariant.1
       ],
     )

@@ -41,8 +41,8 @@ returns-then-output-needed c =
 enough : (c : After-put_sheet-arg-1) → let s = (goal.at.After-put_sheet-arg-1 c).Start in size_of s ≤ length s.args.output.now
 enough c = let s = (goal.at.After-put_sheet-arg-1 c).Start in
     elim c.if-output-lt-LONGEST_SHEET.branch [
-      then-output-lt-LONGEST_SHEET+else-output-needed w ↦ omega (arith, put_count w.put_sheet-needed.ensures, w.if-output-needed.false)
-    | else-output-lt-LONGEST_SHEET w ↦ omega (arith, most s, w.if-output-lt-LONGEST_SHEET.false)
+      | then-output-lt-LONGEST_SHEET+else-output-needed w ↦ omega (arith, put_count w.put_sheet-needed.ensures, w.if-output-needed.false)
+      | else-output-lt-LONGEST_SHEET w ↦ omega (arith, most s, w.if-output-lt-LONGEST_SHEET.false)
     ]
 
 pub put_sheet-n-requires : goal.put_sheet-n-requires
