@@ -1,2 +1,3 @@
 -- A law that the proofs of this crate cite.
 pub mod Laws
+pub mod Shaped

@@ -4,7 +4,7 @@
 
 ghost use Rattle.std.specs.Prelude.{◌≡◌, [], ◌∷◌, length};
 ghost use Rattle.model.specs.{Answer.all_le32, Answer.bytes_for};
-ghost use Rattle.model_record.specs.{Entry.record_number_count};
+ghost use Rattle.model_record.specs.{Claims.Shaped, Entry.record_number_count};
 ghost use Rattle.model_entry.specs.Entry.{WriteAnswered, ReadAnswered};
 
 use model_record::JobRecord;
@@ -26,9 +26,9 @@ fn put_two(answer: &mut [u8], number: u32, other: u32) -> u32
     number
 }
 
-// All that `pavebox_write` does, with the record by value.
+// All that `pavebox_write` does, with the record by value, which has its places as every record in memory has.
 pub fn write_into(job: JobRecord, output: &mut [u8], answer: &mut [u8]) -> u32
-    ensures { WriteAnswered job output.old answer.old result output.new answer.new }
+    ensures { WriteAnswered job output.old answer.old result output.new answer.new × Shaped job }
 {
     if answer.len() != WRITE_ANSWER_BYTES {
         return 10;
@@ -46,7 +46,7 @@ pub struct Opening {
 
 // All that `pavebox_read` does, with the record by value.
 pub fn read_into(sheet: &[u8], job: JobRecord, answer: &mut [u8]) -> Opening
-    ensures { ReadAnswered sheet.now job answer.old result.number result.after answer.new }
+    ensures { ReadAnswered sheet.now job answer.old result.number result.after answer.new × Shaped job }
 {
     if answer.len() != JOB_ANSWER_BYTES {
         return Opening {

@@ -2,10 +2,27 @@
 use borrow.Author.Rules.{rules}
 use Rattle.model_entry.proofs.Laws.{read-other}
 use Rattle.enter_record.proofs.Laws.{read-leaves}
+use Rattle.enter_record.proofs.Shaped.{messages-in}
+use Rattle.model_record.specs.Claims.{Shaped}
+use mathlib.Core.Path.{sym, ◌∙◌}
 use Rattle.enter_record.proofs.read_into.Goals as goal
+use Rattle.enter_record.proofs.read_into.Goals.{Start}
+
+-- behind the struct's machine values and their spelling (`.1 .1`) the relation has a part for each field in the order of the source; an array's has its
+-- length at `.1 .0 .1`, and at `.1 .1` its elements' relations
+shaped : (c : Start) → Shaped c.args.job
+shaped c =
+    let is = c.well_formed.1.0 in
+    record {
+      secrets = is.1.1.1.1.1.0.1.0.1;
+      commands = is.1.1.1.1.1.1.1.0.1.0.1;
+      messages = is.1.1.1.1.1.1.1.1.1.0.1.0.1;
+      entries = messages-in c.args.job.messages _ is.1.1.1.1.1.1.1.1.1.0.1.1;
+      letters = is.1.1.1.1.1.1.1.1.1.1.1.0.1.0.1;
+    }
 
 pub returns-then-answer-ne-JOB_ANSWER_BYTES : goal.returns-then-answer-ne-JOB_ANSWER_BYTES
-returns-then-answer-ne-JOB_ANSWER_BYTES c = read-other _ _ _ c.if-answer-ne-JOB_ANSWER_BYTES.true
+returns-then-answer-ne-JOB_ANSWER_BYTES c = (read-other _ _ _ c.if-answer-ne-JOB_ANSWER_BYTES.true, shaped (goal.at.returns-then-answer-ne-JOB_ANSWER_BYTES c).Start)
 
 pub returns : goal.returns
-returns c = let put = c in read-leaves _ _ _ (search rules) put.open_sheet-opened.ensures put.put_two-number.ensures
+returns c = (read-leaves _ _ _ (search rules) c.open_sheet-opened.ensures c.put_two-number.ensures, shaped (goal.at.returns c).Start)
