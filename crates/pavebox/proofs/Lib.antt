@@ -1,2 +1,0 @@
--- The record that a C program lends.
-pub mod LentJob
