@@ -1,5 +1,5 @@
 //! Finds `libpavebox.a`: in the folder that `PAVEBOX_LIB_DIR` names, else in the repository's
-//! `target/staticlib`, where `rt staticlib pavebox` puts it.
+//! `crates/pavebox/out`, where `rt lib` in `crates/pavebox` puts it.
 
 use std::env;
 use std::path::PathBuf;
@@ -9,7 +9,7 @@ fn main() {
     let archive = folder.join("libpavebox.a");
     if !archive.is_file() {
         panic!(
-            "there is no {}: make it with `rt staticlib pavebox`, or name its folder in \
+            "there is no {}: make it with `rt lib` in crates/pavebox, or name its folder in \
              PAVEBOX_LIB_DIR",
             archive.display()
         );
@@ -24,7 +24,7 @@ fn folder() -> PathBuf {
     match env::var_os("PAVEBOX_LIB_DIR") {
         Some(folder) => PathBuf::from(folder),
         // Cargo runs this in the package's folder, but the compiler may run elsewhere.
-        None => package_folder().join("../target/staticlib"),
+        None => package_folder().join("../crates/pavebox/out"),
     }
 }
 

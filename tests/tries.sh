@@ -13,9 +13,9 @@ if [ -n "$program" ]; then
 fi
 cd "$(dirname "$0")/.."
 
-program="${program:-$PWD/target/bin/$called}"
+program="${program:-$PWD/crates/$called/out/$called}"
 if [ ! -x "$program" ]; then
-    echo "tests/$script: there is no program $program: run \`rt check $called\` first" >&2
+    echo "tests/$script: there is no program $program: run \`rt run\` in crates/$called first" >&2
     exit 1
 fi
 work="$(mktemp -d)"
