@@ -13,6 +13,7 @@ use write_answer::numbers;
 
 // Runs the sheet on the output memory, and prints the sent lines and then `end=` with the seven numbers. The output
 // memory is left as the run left it, also where printing fails.
+#[tactic(auto, unfolding(model_run::specs::Whole::printed))]
 pub fn run_and_print<W: Write>(
     sheet: &[u8],
     output: &mut [u8],

@@ -1,5 +1,5 @@
-// Runs the sheets of the file stdin, which a byte 0 ends each, once on 32,768 bytes and once on 100; the file stdout has
-// what a model written apart from this code prints for them.
+// Runs the sheets of the file stdin, which a byte 0 ends each, once on 32,768 bytes and once on 100; the file stdout
+// has what a model written apart from this code prints for them.
 #![tactic(auto)]
 
 use std::io;
