@@ -8,7 +8,8 @@ abbrev pub WithinBuffer : Input → ℕ → Type 0
 WithinBuffer (Got n) most = n ≤ most
 WithinBuffer Failed most = Unit {0}
 
--- the start of the buffer is what the reader gave, and where the buffer has room left the reader is at its end
+-- What the reader gave stands at the start of the buffer, and where the buffer has room left the reader is at its end.
+-- Where a read failed nothing is lost: what the reads before it gave stands there.
 abbrev pub Reads : Option (List ℕ) → Option (List ℕ) → Input → List ℕ → Type 0
 Reads old new (Got n) buf = Consumes old new (take n buf) × (n < length buf → IsAtEnd new)
-Reads old new Failed buf = Unit {0}
+Reads old new Failed buf = (n : ℕ) × (n ≤ length buf) × Consumes old new (take n buf)

@@ -26,13 +26,11 @@ pub fn read_all<R: Read>(reader: &mut R, buf: &mut [u8]) -> Input
 {
     let mut done = 0;
     while done < buf.len() {
-        let Ok(n) = reader.read(&mut buf[done..]) else {
-            return Input::Failed;
-        };
-        if n == 0 {
-            return Input::Got(done);
+        match reader.read(&mut buf[done..]) {
+            Ok(0) => return Input::Got(done),
+            Ok(n) => done += n,
+            Err(_) => return Input::Failed,
         }
-        done += n;
     }
     Input::Got(done)
 }
