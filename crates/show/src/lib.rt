@@ -1,18 +1,29 @@
 // What `runsheet` does with a sheet: run and printed.
 #![tactic(auto)]
 
-ghost use Rattle.std.specs.Prelude.{◌≡◌};
-ghost use Rattle.model_run.specs.{Whole.left, Whole.run_sheet};
+ghost use Rattle.std.specs.Prelude.{◌≡◌, OnOk};
+ghost use Rattle.std.specs.Io.KnownBytes.{Appends};
+ghost use Rattle.model_run.specs.{Whole.left, Whole.run_sheet, Whole.printed};
 
 use model::Answer;
+use std::io;
+use std::io::Write;
 use whole_sheet::run_sheet;
 use write_answer::numbers;
 
-// Runs the sheet on the output memory, and prints the sent lines and then `end=` with the seven numbers. The output memory is left as the run left it.
-pub fn run_and_print(sheet: &[u8], output: &mut [u8]) -> Answer
-    ensures { left result output.new ≡ run_sheet sheet.now output.old }
+// Runs the sheet on the output memory, and prints the sent lines and then `end=` with the seven numbers. The output
+// memory is left as the run left it, also where printing fails.
+#[tactic(auto, unfolding(model_run::specs::Whole::printed))]
+pub fn run_and_print<W: Write>(
+    sheet: &[u8],
+    output: &mut [u8],
+    stdout: &mut W,
+) -> (Answer, io::Result<()>)
+    ensures memory { left result.0 output.new ≡ run_sheet sheet.now output.old }
+    ensures lines { OnOk result.1 (Appends (W.contents stdout.old) (W.contents stdout.new)
+        (printed sheet.now output.old)) }
 {
     let a = run_sheet(sheet, output);
-    terminal::print_run(numbers(a), output);
-    a
+    let printed = terminal::print_run(stdout, numbers(a), output);
+    (a, printed)
 }

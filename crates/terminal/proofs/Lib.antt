@@ -1,0 +1,3 @@
+-- Numbers as they are printed, and what a read gave.
+mod Numbers
+mod Fronts
