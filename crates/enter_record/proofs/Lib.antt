@@ -1,3 +1,3 @@
 -- A law that the proofs of this crate cite.
 pub mod Laws
-pub mod Shaped
+pub mod LentJob

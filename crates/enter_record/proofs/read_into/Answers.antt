@@ -2,24 +2,14 @@
 use borrow.Author.Rules.{rules}
 use Rattle.model_entry.proofs.Laws.{read-other}
 use Rattle.enter_record.proofs.Laws.{read-leaves}
-use Rattle.enter_record.proofs.Shaped.{messages-in}
+use Rattle.enter_record.proofs.LentJob.{in_memory}
 use Rattle.model_record.specs.Claims.{Shaped}
-use mathlib.Core.Path.{sym, ◌∙◌}
 use Rattle.enter_record.proofs.read_into.Goals as goal
 use Rattle.enter_record.proofs.read_into.Goals.{Start}
 
--- behind the struct's machine values and their spelling (`.1 .1`) the relation has a part for each field in the order of the source; an array's has its
--- length at `.1 .0 .1`, and at `.1 .1` its elements' relations
+-- the record is in memory, so it has its places
 shaped : (c : Start) → Shaped c.args.job
-shaped c =
-    let is = c.well_formed.1.0 in
-    record {
-      secrets = is.1.1.1.1.1.0.1.0.1;
-      commands = is.1.1.1.1.1.1.1.0.1.0.1;
-      messages = is.1.1.1.1.1.1.1.1.1.0.1.0.1;
-      entries = messages-in c.args.job.messages _ is.1.1.1.1.1.1.1.1.1.0.1.1;
-      letters = is.1.1.1.1.1.1.1.1.1.1.1.0.1.0.1;
-    }
+shaped c = in_memory c.args.job c.well_formed.1.0
 
 pub returns-then-answer-ne-JOB_ANSWER_BYTES : goal.returns-then-answer-ne-JOB_ANSWER_BYTES
 returns-then-answer-ne-JOB_ANSWER_BYTES c = (read-other _ _ _ c.if-answer-ne-JOB_ANSWER_BYTES.true, shaped (goal.at.returns-then-answer-ne-JOB_ANSWER_BYTES c).Start)

@@ -1,0 +1,2 @@
+-- For the programs: what was given lies within its limit.
+pub mod Laws
