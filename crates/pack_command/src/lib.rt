@@ -107,6 +107,8 @@ pub fn unpack(x: u64) -> Command
 }
 
 // The first count commands, of their numbers.
+// Called and not inlined, so that what it makes takes no stack while the program is read.
+#[inline(never)]
 pub fn unpack_all(held: [u64; COMMAND_CAPACITY], count: usize) -> [Command; COMMAND_CAPACITY]
     requires { count ≤ command_capacity }
     ensures { Unpacked held count count result }

@@ -25,6 +25,8 @@ pub struct Secrets {
 }
 
 // A line that holds a number from 1 to the limit, and has the number first.
+// Called and not inlined, for the read-only memory: it stands at many places.
+#[inline(never)]
 pub fn number_line(s: &[u8], name: &[u8], limit: u64, first: u32) -> NumberLine
     requires { (1 ≤ limit) × (limit < 4294967296) × (first + length s.now < 4294967296) }
     ensures { NumberRead name.now limit s.now first result }
@@ -48,6 +50,9 @@ pub fn number_line(s: &[u8], name: &[u8], limit: u64, first: u32) -> NumberLine
 }
 
 // The `secret` lines at the start of s, of which the first has the number first.
+// Called and not inlined: each call's result has a place of its own on the stack of the function that it is inlined
+// into, so that all phases of reading would lie there at once.
+#[inline(never)]
 pub fn read_secrets(s: &[u8], form: Form, keys: u64, first: u32) -> Secrets
     requires { (1 ≤ keys) × (keys ≤ key_capacity) × (first + length s.now < 4294967296) }
     ensures { SecretsRead form keys s.now first result }

@@ -170,6 +170,8 @@ pub fn spoilt_line(s: &[u8]) -> usize
 }
 
 // The name is given with its equals sign. It is looked for before the line feed, so that a line of another name is not read to its end.
+// Called and not inlined, for the read-only memory: it stands at many places.
+#[inline(never)]
 pub fn first_line(t: &[u8], name: &[u8]) -> Found
     ensures { FirstLine name.now t.now result }
 {

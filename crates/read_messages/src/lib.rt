@@ -69,6 +69,9 @@ pub fn read_message(s: &[u8], keys: u64) -> Message
 }
 
 // The `msg` lines at the start of s, of which the first has the number first.
+// Called and not inlined: each call's result has a place of its own on the stack of the function that it is inlined
+// into, so that all phases of reading would lie there at once.
+#[inline(never)]
 pub fn read_messages(s: &[u8], form: Form, keys: u64, first: u32) -> Messages
     requires { Fits form × (1 ≤ keys) × (keys ≤ form.keys) × (first + length s.now < 4294967296) }
     ensures { MessagesRead form keys s.now first result }

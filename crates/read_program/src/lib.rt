@@ -18,6 +18,9 @@ pub struct Commands {
 }
 
 // The `do` lines at the start of s, of which the first has the number first. There is one at least.
+// Called and not inlined: each call's result has a place of its own on the stack of the function that it is inlined
+// into, so that all phases of reading would lie there at once.
+#[inline(never)]
 pub fn read_commands(s: &[u8], form: Form, keys: u64, first: u32) -> Commands
     requires { Fits form × (1 ≤ keys) × (keys ≤ form.keys) × (first + length s.now < 4294967296) }
     ensures { CommandsRead form keys s.now first result }

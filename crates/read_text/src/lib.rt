@@ -23,6 +23,8 @@ pub enum Whole {
 }
 
 // The place of the first c, or the length where there is none. Two bytes at a time: most of a sheet's bytes are passed here.
+// Called and not inlined, for the read-only memory: it stands at many places.
+#[inline(never)]
 pub fn find_byte(s: &[u8], c: u8) -> usize
     ensures { result ≡ find c s.now }
 {

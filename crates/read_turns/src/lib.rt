@@ -81,6 +81,9 @@ fn copy_letters(s: &[u8], form: Form) -> Letters
 }
 
 // The line `turns` at the start of s, and nothing after it.
+// Called and not inlined: each call's result has a place of its own on the stack of the function that it is inlined
+// into, so that all phases of reading would lie there at once.
+#[inline(never)]
 pub fn read_turns(s: &[u8], form: Form, first: u32) -> Turns
     requires { Fits form × (first + length s.now < 4294967296) }
     ensures { TurnsRead form s.now first result }

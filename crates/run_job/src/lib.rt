@@ -17,6 +17,8 @@ use write_line::{heading, key_cell, line_end};
 //
 // Per turn only one command, one entry, what changes of one record and the kind of one call move. An ending is tested where it can come about: that the letters are used
 // at every turn, the room at a send, the stop after a low step. Every turn ends in its own step of the clock, so that each is one case of the proof.
+// Called and not inlined, so that what a run holds takes no stack while the sheet is read.
+#[inline(never)]
 pub fn run_job(job: StoredJob, out: &mut [u8]) -> Answer
     requires { Sound (job_of job) × Stored job }
     ensures { left result out.new ≡ left_by out.old (run_job (job_of job) (length out.old)) }

@@ -2,14 +2,26 @@
 #![tactic(auto)]
 
 ghost use Rattle.std.specs.Prelude.{◌≡◌};
-ghost use Rattle.model.specs.Written.{written};
-ghost use Rattle.model_forms.specs.Forms.{turn_sheet};
+ghost use Rattle.model.specs.{Stored.Stored, Stored.job_of, Accepted.Sound, Written.written, Written.write};
+ghost use Rattle.model_change.specs.Change.{draft_of};
+ghost use Rattle.model_forms.specs.Forms.{turn as turns, turn_sheet};
 
-use model::TextAnswer;
+use model::{StoredJob, TextAnswer};
 use model_forms::Asked;
 use read_sheet::{Status, read_sheet};
 use save_job::save_changed;
 use turn_form::turn;
+
+// Writes a job in the form asked for. Called and not inlined, so that what it makes takes no stack while the sheet is
+// read.
+#[inline(never)]
+fn save_turned(job: StoredJob, asked: Asked, output: &mut [u8]) -> TextAnswer
+    requires { Sound (job_of job) × Stored job }
+    ensures { written result output.new ≡ write 49 output.old (draft_of (turns asked (job_of job))) }
+{
+    let turned = turn(job, asked);
+    save_changed(turned, 49, output)
+}
 
 // Writes the sheet in the form asked for into the output memory, or refuses and writes nothing. Any bytes at all are
 // taken.
@@ -26,8 +38,7 @@ pub fn turn_sheet(sheet: &[u8], asked: Asked, output: &mut [u8]) -> TextAnswer
         },
         Status::Got => {
             let job = read.job;
-            let turned = turn(job, asked);
-            save_changed(turned, 49, output)
+            save_turned(job, asked, output)
         }
     }
 }

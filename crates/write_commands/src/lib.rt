@@ -66,6 +66,8 @@ fn put_command(out: &mut [u8], at: usize, c: Command) -> usize
 }
 
 // The lines of the first count commands.
+// Inlined: a call has the commands on the stack once more.
+#[inline(always)]
 pub fn put_commands(
     out: &mut [u8],
     at: usize,

@@ -65,6 +65,8 @@ fn put_message(out: &mut [u8], at: usize, line: MessageLine, keys: usize) -> usi
 }
 
 // The lines of the first count messages, each of so many keys.
+// Inlined: a call has the messages on the stack once more.
+#[inline(always)]
 pub fn put_messages(
     out: &mut [u8],
     at: usize,
