@@ -18,20 +18,22 @@ abbrev pub program_lines : Block → List ℕ
 program_lines b = command_lines (commands_of b)
 
 pub record BlocksWritten (text : List ℕ) (keys : ℕ) (output : List ℕ) (returned : ℕ) (output' answer' : List ℕ) : Type 0 where
-  -- 4 at line 0, 2, 51, 52, 6 and 4 with their lines depend on the text and the number of keys alone, and "a refusal writes nothing"
+  -- 4 at line 0, 2, 51, 52, 6 and 4 with their lines depend on the text and the number of keys alone, and "a refusal
+  -- writes nothing"
   pub refuses : (n l : ℕ) → read_blocks keys text ≡ refused n l → ThreeNumbers n l 0 returned answer' × (output' ≡ output)
   -- "53, last and at line 0, for more than 64 commands after translation"
   pub many : (b : Block) → read_blocks keys text ≡ tree b → most_commands < places b → ThreeNumbers 53 0 0 returned answer' × (output' ≡ output)
   -- "or too little lent memory"
   pub lacks : (b : Block) → read_blocks keys text ≡ tree b → places b ≤ most_commands → length output < length (program_lines b)
       → ThreeNumbers 53 0 0 returned answer' × (output' ≡ output)
-  -- "Out come `do` lines.": exactly those of the translation, and behind them stand the old bytes; exactly enough memory is enough
+  -- "Out come `do` lines.": exactly those of the translation, and behind them stand the old bytes; exactly enough
+  -- memory is enough
   pub writes : (b : Block) → read_blocks keys text ≡ tree b → places b ≤ most_commands → length (program_lines b) ≤ length output
       → ThreeNumbers 0 0 (length (program_lines b)) returned answer' × (output' ≡ program_lines b ++ drop (length (program_lines b)) output)
   -- with 1,344 bytes lent it is never too little
   pub enough : most_block_bytes ≤ length output → returned ≡ 53 → (b : Block) × (read_blocks keys text ≡ tree b) × (most_commands < places b)
-  -- what came out, put into the least sheet with as many keys, is accepted and read as exactly the translated commands (of any other sheet `BlocksPasted` says it),
-  -- and every plain run of these agrees with the program step by step
+  -- what came out, put into the least sheet with as many keys, is accepted and read as exactly the translated commands
+  -- (of any other sheet `BlocksPasted` says it), and every plain run of these agrees with the program step by step
   pub sheet : returned ≡ 0
       → (b : Block) × (read_blocks keys text ≡ tree b)
       × (read_sheet (least_head keys ++ (take (length (program_lines b)) output' ++ least_tail)) ≡ accepted (with_commands (least_job keys) (commands_of b)))

@@ -1,4 +1,5 @@
--- The job's record and the `Opening` that a call returns, as `Lent.antt` takes them, and what is known of its machine value.
+-- The job's record and the `Opening` that a call returns, as `Lent.antt` takes them, and what is known of its machine
+-- value.
 --     after_is         the record in it is related to its machine value.        number_fits      the number is a `u32`
 --     in_memory        every record in memory has its places: what a record owns says how long its arrays are
 -- Assumes nothing.
@@ -41,8 +42,8 @@ messages-in [] us s = tt
 messages-in (m ∷ ms) [] s = absurd s
 messages-in (m ∷ ms) (u ∷ us) s = (s.0.1.1.1.0.1.0.1, messages-in ms us s.1)
 
--- behind the struct's machine values and their spelling (`.1 .1`) the relation has a part for each field in the order of the source; an array's has its length at `.1 .0 .1`, and at
--- `.1 .1` its elements' relations
+-- behind the struct's machine values and their spelling (`.1 .1`) the relation has a part for each field in the order
+-- of the source; an array's has its length at `.1 .0 .1`, and at `.1 .1` its elements' relations
 pub in_memory : (h : JobRecord) → Related job h → Shaped h
 in_memory h is = record {
   secrets = is.1.1.1.1.1.0.1.0.1;

@@ -13,8 +13,8 @@ WithinBuffer Failed most = Unit {0}
 WithinBuffer TooLong most = Unit {0}
 WithinBuffer Misused most = Unit {0}
 
--- all that the reader had stands at the start of the buffer, or as much as fills it; where a read failed, what the reads
--- before it gave stands there
+-- all that the reader had stands at the start of the buffer, or as much as fills it; where a read failed, what the
+-- reads before it gave stands there
 abbrev pub ReadsWhole : Option (List ℕ) → Option (List ℕ) → Text → List ℕ → Type 0
 ReadsWhole old new (Got n) buf = Consumes old new (take n buf) × IsAtEnd new
 ReadsWhole old new Failed buf = (n : ℕ) × (n ≤ length buf) × Consumes old new (take n buf)

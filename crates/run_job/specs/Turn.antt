@@ -6,8 +6,8 @@ use Rattle.model.specs.declared.{Level.Level, StoredJob.StoredJob}
 use Rattle.model.specs.Placed.{placed}
 use Rattle.run_job.specs.Held.{Held, state_of}
 
--- The turn of a level: from what was held and the memory m to what is held then and the memory m'. The lines sent before are any list: the turn
--- adds to them, and writes what it adds behind the bytes written.
+-- The turn of a level: from what was held and the memory m to what is held then and the memory m'. The lines sent
+-- before are any list: the turn adds to them, and writes what it adds behind the bytes written.
 pub record Turned (j : StoredJob) (l : Level) (sent : List Sent) (h h' : Held) (m m' : List ℕ) : Type 0 where
   pub new : List Sent
   pub state : turn (job_of j).keys (job_of j).commands l (state_of j sent h) ≡ state_of j (sent ++ new) h'
@@ -20,8 +20,9 @@ letters_left j h = drop h.clock.positions (job_of j).turns
 abbrev pub found_before : StoredJob → ℕ → List Sent → Held → Verdict
 found_before j room sent h = verdict (job_of j).keys (job_of j).commands room (letters_left j h) (state_of j sent h)
 
--- What a function would promise that takes one turn of a run which its host holds: where an ending is found all is left as it was, else the turn is that
--- of the next letter's level, whatever was sent before. (Where no letter is left, an ending is found.)
+-- What a function would promise that takes one turn of a run which its host holds: where an ending is found all is left
+-- as it was, else the turn is that of the next letter's level, whatever was sent before. (Where no letter is left, an
+-- ending is found.)
 abbrev pub next_turn : StoredJob → List Level → List Sent → Held → Held → List ℕ → List ℕ → Type 0
 next_turn j [] sent h h' m m' = ⊥
 next_turn j (l ∷ ls) sent h h' m m' = Turned j l sent h h' m m'

@@ -21,8 +21,8 @@ fn no_room() -> TextAnswer
     }
 }
 
-// Writes the `do` lines of a program for so many keys into the output memory, or refuses and writes nothing. The lines are counted first, in no memory at
-// all. Any bytes at all are taken, and any number of keys.
+// Writes the `do` lines of a program for so many keys into the output memory, or refuses and writes nothing. The lines
+// are counted first, in no memory at all. Any bytes at all are taken, and any number of keys.
 pub fn write_blocks(text: &[u8], keys: u32, output: &mut [u8]) -> TextAnswer
     ensures { written result output.new ≡ write_blocks keys text.now output.old }
 {

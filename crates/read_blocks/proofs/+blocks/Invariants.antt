@@ -1,5 +1,5 @@
--- What is left of the text falls at each call, by a byte at least from a line to the next; on one line the calls go from a block to what stands in it, and
--- from there to a command with blocks in it or to what follows an `else`.
+-- What is left of the text falls at each call, by a byte at least from a line to the next; on one line the calls go
+-- from a block to what stands in it, and from there to a command with blocks in it or to what follows an `else`.
 use Rattle.std.proofs.Common.{◌≡◌, ◌+◌, ◌-◌, ◌*◌, ℕ, length}
 use Rattle.read_blocks.specs.Blocks.{Goes}
 use Rattle.read_blocks.proofs.+blocks.Given as goal
