@@ -3,30 +3,29 @@
 // needs. The lines do not depend on whether the answer can be said.
 #![tactic(auto)]
 
-use input::Text;
+use input::Program;
 use std::io;
+
+const BELTLOG: Program<'static> = Program {
+    name: "beltlog",
+    text: "export",
+    arguments: "[EXPORT]",
+};
 
 const LENT_BYTES: usize = 3712;
 
-fn complain(rt: &impl Eprint, what: &str) -> io::Result<()> {
-    eprintln!(rt; "beltlog: {what}")
-}
-
 fn main(rt: HostRuntime) -> io::Result<()> {
     let mut log = input::buffer();
+    let n = match input::text_argument(&rt, &mut log, 1) {
+        Ok(n) => n,
+        Err(why) => return BELTLOG.complain(&rt, why),
+    };
     let mut output = [0u8; LENT_BYTES];
-    match input::text_argument(&rt, &mut log, 1) {
-        Text::Got(n) => {
-            let (_, printed) = show_log::write_and_print(
-                &log[..n],
-                &mut output,
-                &mut rt.stdout(),
-                &mut rt.stderr(),
-            );
-            printed.text
-        }
-        Text::Failed => complain(&rt, "the export could not be read"),
-        Text::TooLong => complain(&rt, "the export has more than 262,144 bytes"),
-        Text::Misused => complain(&rt, "usage: beltlog [EXPORT]"),
-    }
+    let (_, printed) = show_log::write_and_print(
+        &log[..n],
+        &mut output,
+        &mut rt.stdout(),
+        &mut rt.stderr(),
+    );
+    printed.text
 }

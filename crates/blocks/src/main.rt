@@ -3,39 +3,33 @@
 // bytes written. As much is lent as any program needs. The lines do not depend on whether the answer can be said.
 #![tactic(auto)]
 
-use input::Text;
-use read_text::Natural;
+use input::{Program, TextError};
 use std::io;
+
+const BLOCKS: Program<'static> = Program {
+    name: "blocks",
+    text: "program",
+    arguments: "K [FILE]",
+};
 
 const LENT_BYTES: usize = 1344;
 
-fn complain(rt: &impl Eprint, what: &str) -> io::Result<()> {
-    eprintln!(rt; "blocks: {what}")
-}
-
-fn translate(rt: &HostRuntime, keys: u32) -> io::Result<()> {
-    let mut text = input::buffer();
-    let mut output = [0u8; LENT_BYTES];
-    match input::text_argument(rt, &mut text, 2) {
-        Text::Got(n) => {
-            let (_, printed) = show_blocks::translate_and_print(
-                &text[..n],
-                keys,
-                &mut output,
-                &mut rt.stdout(),
-                &mut rt.stderr(),
-            );
-            printed.text
-        }
-        Text::Failed => complain(rt, "the program could not be read"),
-        Text::TooLong => complain(rt, "the program has more than 262,144 bytes"),
-        Text::Misused => complain(rt, "usage: blocks K [FILE]"),
-    }
-}
-
 fn main(rt: HostRuntime) -> io::Result<()> {
-    match input::number_argument(&rt, 1) {
-        Natural::Got(keys) => translate(&rt, keys as u32),
-        Natural::Refused(_) => complain(&rt, "usage: blocks K [FILE]"),
-    }
+    let Ok(keys) = input::number_argument(&rt, 1) else {
+        return BLOCKS.complain(&rt, TextError::Misused);
+    };
+    let mut text = input::buffer();
+    let n = match input::text_argument(&rt, &mut text, 2) {
+        Ok(n) => n,
+        Err(why) => return BLOCKS.complain(&rt, why),
+    };
+    let mut output = [0u8; LENT_BYTES];
+    let (_, printed) = show_blocks::translate_and_print(
+        &text[..n],
+        keys,
+        &mut output,
+        &mut rt.stdout(),
+        &mut rt.stderr(),
+    );
+    printed.text
 }

@@ -13,8 +13,7 @@ use Rattle.model.specs.SheetTwo as SheetTwo
 use Rattle.model.specs.SheetTwo.{sheet_both, sheet_less, sheet_other, job_both, job_less, job_other}
 use Rattle.model_run.specs.HonestExamples.{Comparison, job, doubles}
 use Rattle.model.specs.declared.Owner.TheVariants.{A, B}
-use Rattle.model.specs.declared.Answer.{Answer}
-use Rattle.model.specs.declared.Answer.TheVariants.{Ended, Refused}
+use Rattle.model.specs.RunAnswer.{Answer, Ended, Refused}
 use Rattle.model.proofs.{Placed.front_length}
 use Rattle.model_run.proofs.{Counted.counts_of, Examples.opened, Secrecy.secrecy, Witness.telling as witness, Honest.honest-sheet-loses-nothing, Owners.telling-b, Owners.telling-both, Owners.clear-a}
 use Rattle.model_run.proofs.{HonestExamples.opened_plain, HonestExamples.honest-example}

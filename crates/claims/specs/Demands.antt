@@ -7,7 +7,8 @@ use Rattle.model_run.specs.{Witness.job2, Witness.job3, Run.low_turns_of, Clampe
 use Rattle.model_run.specs.{Honest.HoldsLines}
 use Rattle.model_run.specs.HonestExamples.{job, doubles, lines_honest}
 use Rattle.model.specs.Sheet as Sheet
-use Rattle.model.specs.declared.{Owner.TheVariants.A, Owner.TheVariants.B, Answer.TheVariants.Refused}
+use Rattle.model.specs.declared.{Owner.TheVariants.A, Owner.TheVariants.B}
+use Rattle.model.specs.RunAnswer.{Refused}
 use Rattle.model_entry.specs.Entry.{Answered}
 
 -- A call with an answer memory of 28 bytes

@@ -33,8 +33,10 @@ pub fn write_into(job: JobRecord, output: &mut [u8], answer: &mut [u8]) -> u32
     if answer.len() != WRITE_ANSWER_BYTES {
         return 10;
     }
-    let a = save_record(job, output);
-    put_two(answer, a.number, a.bytes)
+    match save_record(job, output) {
+        Ok(bytes) => put_two(answer, 0, bytes),
+        Err(fault) => put_two(answer, u32::from(fault.refusal), 0),
+    }
 }
 
 // The record after a call, and the number to return.
@@ -54,8 +56,10 @@ pub fn read_into(sheet: &[u8], job: JobRecord, answer: &mut [u8]) -> Opening
             number: 10,
         };
     }
-    let opened = open_sheet(sheet, job);
-    let number = put_two(answer, opened.number, opened.line);
-    let after = opened.job;
+    let mut after = job;
+    let number = match open_sheet(sheet, &mut after) {
+        Ok(()) => put_two(answer, 0, 0),
+        Err(fault) => put_two(answer, u32::from(fault.refusal), fault.line),
+    };
     Opening { after, number }
 }

@@ -2,24 +2,19 @@
 // go into it.
 #![tactic(auto)]
 
-ghost use Rattle.std.specs.Prelude.{◌≡◌, length};
-ghost use Rattle.model.specs.{Answer.all_le32, Answer.bytes_for, Written.text_numbers, Written.text_number_count};
-ghost use Rattle.model_entry.specs.Entry.{Answered, LogAnswered, BlocksAnswered, FormAnswered};
+ghost use Rattle.std.specs.Prelude.{◌≡◌, ℕ, List, Result};
+ghost use Rattle.std.specs.Fn.{FnOnceReturnsAtMut};
+ghost use Rattle.model.specs.declared.TextFault.{TextFault};
+ghost use Rattle.model.specs.Written.{Written, written, told, text_entry};
+ghost use Rattle.model_entry.specs.Entry.{Leaves, Answered, LogAnswered, BlocksAnswered, FormAnswered};
 
-use model::{ANSWER_BYTES, TEXT_ANSWER_BYTES, TextAnswer};
+use model::{ANSWER_BYTES, TEXT_ANSWER_BYTES, TextFault};
 use model_forms::Asked;
 use whole_blocks::write_blocks;
 use whole_forms::turn_sheet;
 use whole_log::write_log;
 use whole_sheet::run_sheet;
 use write_answer::{numbers, put_numbers, text_numbers};
-
-// The answer memories, as the header names them.
-const CSV_ANSWER_BYTES: usize = TEXT_ANSWER_BYTES;
-
-const BLOCKS_ANSWER_BYTES: usize = TEXT_ANSWER_BYTES;
-
-const FORM_ANSWER_BYTES: usize = TEXT_ANSWER_BYTES;
 
 // An answer memory of another length than 28 bytes gets 10, and nothing is written; else the sheet is run on the
 // output memory, the seven numbers go into the answer memory, and the first of them is returned.
@@ -29,55 +24,52 @@ pub fn run_into(sheet: &[u8], output: &mut [u8], answer: &mut [u8]) -> u32
     if answer.len() != ANSWER_BYTES {
         return 10;
     }
-    let a = run_sheet(sheet, output);
-    let ns = numbers(a);
+    let ns = numbers(run_sheet(sheet, output));
     put_numbers(answer, &ns);
     ns[0]
 }
 
-// The three numbers of a text's answer go into the answer memory, and the first of them is given.
-fn put_text_answer(answer: &mut [u8], a: TextAnswer) -> u32
-    requires { length answer.old ≡ bytes_for text_number_count }
-    ensures { (result ≡ a.number) × (answer.new ≡ all_le32 (text_numbers a)) }
+// An answer memory of another length than 12 bytes gets 10, and nothing is written; else a text is written into the
+// output memory, the three numbers go into the answer memory, and the first of them is returned.
+fn enter<F: FnOnce(&mut [u8]) -> Result<u32, TextFault>>(
+    writing: F,
+    output: &mut [u8],
+    answer: &mut [u8],
+) -> u32
+    requires { F.IsAlwaysCallable writing }
+    ensures { (w : Written) → ((wrote : Result ℕ TextFault) (m : List ℕ) →
+        FnOnceReturnsAtMut F.FnOnce writing output.old wrote m → written (told wrote) m ≡ w) →
+        Leaves (text_entry output.old answer.old w) result output.new answer.new }
 {
-    let ns = text_numbers(a);
-    put_numbers(answer, &ns);
-    a.number
+    if answer.len() != TEXT_ANSWER_BYTES {
+        return 10;
+    }
+    let told = text_numbers(writing(output));
+    put_numbers(answer, &told);
+    told[0]
 }
 
-// An answer memory of another length than 12 bytes gets 10, and nothing is written; else the `msg` lines of the
-// export go into the output memory, the three numbers go into the answer memory, and the first of them is returned.
+// Writes the `msg` lines of the export into the output memory, and answers with the three numbers.
+#[tactic(auto, unfolding(model_log::specs::Log::log_entry))]
 pub fn csv_into(log: &[u8], output: &mut [u8], answer: &mut [u8]) -> u32
     ensures { LogAnswered log.now output.old answer.old result output.new answer.new }
 {
-    if answer.len() != CSV_ANSWER_BYTES {
-        return 10;
-    }
-    let a = write_log(log, output);
-    put_text_answer(answer, a)
+    enter(|memory| write_log(log, memory), output, answer)
 }
 
-// An answer memory of another length than 12 bytes gets 10, and nothing is written; else the `do` lines of the
-// program with blocks for so many keys go into the output memory, the three numbers go into the answer memory, and
-// the first of them is returned.
+// Writes the `do` lines of the program with blocks for so many keys into the output memory, and answers with the three
+// numbers.
+#[tactic(auto, unfolding(model_blocks::specs::Dialect::blocks_entry))]
 pub fn blocks_into(text: &[u8], keys: u32, output: &mut [u8], answer: &mut [u8]) -> u32
     ensures { BlocksAnswered text.now keys output.old answer.old result output.new answer.new }
 {
-    if answer.len() != BLOCKS_ANSWER_BYTES {
-        return 10;
-    }
-    let a = write_blocks(text, keys, output);
-    put_text_answer(answer, a)
+    enter(|memory| write_blocks(text, keys, memory), output, answer)
 }
 
-// An answer memory of another length than 12 bytes gets 10, and nothing is written; else the sheet in that form goes
-// into the output memory, the three numbers go into the answer memory, and the first of them is returned.
+// Writes the sheet in that form into the output memory, and answers with the three numbers.
+#[tactic(auto, unfolding(model_forms::specs::Forms::turn_entry))]
 pub fn turn_into(sheet: &[u8], asked: Asked, output: &mut [u8], answer: &mut [u8]) -> u32
     ensures { FormAnswered asked sheet.now output.old answer.old result output.new answer.new }
 {
-    if answer.len() != FORM_ANSWER_BYTES {
-        return 10;
-    }
-    let a = turn_sheet(sheet, asked, output);
-    put_text_answer(answer, a)
+    enter(|memory| turn_sheet(sheet, asked, memory), output, answer)
 }

@@ -1,8 +1,8 @@
 -- The proofs about the model.
 pub mod Parsed
+pub mod Handed
 pub mod Placed
 pub mod Decimal
-pub mod Variables
 pub mod Stored
 pub mod Ready
 pub mod Forms

@@ -1,8 +1,10 @@
 -- The numbers of an answer: the line that they are printed as, and their bytes in the memory that a C entry is lent.
-use Rattle.std.specs.Prelude.{ℕ, ◌*◌, ◌/◌, ◌%◌, List, [], ◌∷◌, ◌++◌, cond}
+use Rattle.std.specs.Prelude.{ℕ, ◌*◌, ◌/◌, ◌%◌, List, [], ◌∷◌, ◌++◌, cond, Result, Ok, Err}
 use lib.{ListN.length, ListN.get_or, Dec.eqb}
 use Rattle.model.specs.{Text.bytes, Text.line_feed, Text.space, Decimal.natural}
 use Rattle.model.specs.Data.{Ending, Stopped, LettersUsed, NoRoom, Answer, Ended, Refused}
+use Rattle.model.specs.Refusal.{number_of}
+use Rattle.model.specs.declared.{Ended.Ended as Run·ended, Fault.Fault}
 
 -- the number of an ending, "From the state"
 abbrev pub ending_number : Ending → ℕ
@@ -16,6 +18,14 @@ ending_number NoRoom = 32
 unfoldable pub numbers_of : Answer → List ℕ
 numbers_of (Ended e c) = ending_number e ∷ 0 ∷ c.positions ∷ c.steps ∷ c.bytes ∷ c.taken ∷ c.clamped ∷ []
 numbers_of (Refused n l) = n ∷ l ∷ 0 ∷ 0 ∷ 0 ∷ 0 ∷ 0 ∷ []
+
+-- what a run that ends comes to, and what the run of a sheet comes to, as the code has them
+abbrev pub ended_as : Run·ended → Answer
+ended_as r = Ended r.ending r.counts
+
+abbrev pub answer_as : Result Run·ended Fault → Answer
+answer_as (Ok r) = ended_as r
+answer_as (Err f) = Refused (number_of f.refusal) f.line
 
 -- ---- `runsheet`
 

@@ -1,8 +1,10 @@
 -- Document 02, of every function that writes text into lent memory: "The answer is the number, the row .., and the bytes written; a refusal writes nothing."
-use Rattle.std.specs.Prelude.{ℕ, ◌%◌, ◌≤◌, ◌<◌, ◌≡◌, ◌≢◌, cond, List, [], ◌∷◌}
+use Rattle.std.specs.Prelude.{ℕ, ◌%◌, ◌≤◌, ◌<◌, ◌≡◌, ◌≢◌, cond, List, [], ◌∷◌, Result, Ok, Err}
 use lib.{Dec.leb, ListN.length}
 use Rattle.model.specs.{Placed.front, Answer.After, Answer.answered, Answer.entered}
 use Rattle.model.specs.Data.{TextAnswer}
+use Rattle.model.specs.Refusal.{number_of}
+use Rattle.model.specs.declared.TextFault.{TextFault}
 
 -- What there is to write: a text, or a refusal with its number and the line that it names
 pub data Draft : Type 0 where
@@ -16,6 +18,11 @@ pub record Written : Type 0 where
 
 abbrev pub written : TextAnswer → List ℕ → Written
 written a m = record { answer = a; memory = m }
+
+-- the answer of what the code gives: the bytes written, or a fault
+abbrev pub told : Result ℕ TextFault → TextAnswer
+told (Ok n) = record { number = 0; line = 0; bytes = n }
+told (Err f) = record { number = number_of f.refusal; line = f.line; bytes = 0 }
 
 -- "a refusal writes nothing": the bytes are 0 and the memory is as it was
 abbrev pub untouched : ℕ → ℕ → List ℕ → Written

@@ -5,7 +5,7 @@
 #![tactic(auto)]
 
 ghost use Rattle.std.specs.Prelude.{◌≡◌, ◌<◌, ◌≤◌, replicate};
-ghost use Rattle.model.specs.{Limits.variables, Command.blank, Execution.begun as Execution·begun, Execution.after_of, Execution.called_of, Execution.calls_by};
+ghost use Rattle.model.specs.{Limits.variables, Command.blank, Execution.begun as Execution·begun, Execution.after_of, Execution.called_of};
 ghost use Rattle.model.specs.{Stored.key_capacity, Stored.command_capacity, Stored.message_capacity, Stored.open_slot, Stored.absent_slot, Stored.blank_line};
 ghost use Rattle.model.specs.{Stored.nothing_stored};
 ghost use Rattle.model.specs.Form.{form_one, form_two, form_of, third_of};
@@ -47,11 +47,6 @@ pub const LETTER_CAPACITY: usize = 1024;
 
 pub const VARIABLES: usize = 8;
 
-// The kinds of call as bytes.
-pub const RECEIVED: u8 = 0;
-
-pub const SENT: u8 = 1;
-
 // The numbers of an answer, and the bytes of the answer memory, four for each.
 pub const NUMBERS: usize = 7;
 
@@ -61,6 +56,69 @@ pub const ANSWER_BYTES: usize = 4 * NUMBERS;
 pub const TEXT_NUMBERS: usize = 3;
 
 pub const TEXT_ANSWER_BYTES: usize = 4 * TEXT_NUMBERS;
+
+// Why a sheet, an export, a program with blocks or a record is refused, by the number that is told.
+#[derive(Clone, Copy, Debug, PartialEq, Eq)]
+pub enum Refusal {
+    TooLong = 1,
+    Spoilt = 2,
+    Misplaced = 3,
+    BadNumber = 4,
+    KeyOrder = 5,
+    BadCommand = 6,
+    FarTarget = 7,
+    TooMany = 8,
+    BadLetters = 9,
+    BadRow = 41,
+    BadField = 42,
+    ShortForLog = 43,
+    BadOwner = 46,
+    Unsayable = 47,
+    HasForm = 48,
+    ShortForForm = 49,
+    UnpairedBlock = 51,
+    TooDeep = 52,
+    ShortForBlocks = 53,
+    BadRecord = 54,
+    ShortForRecord = 55,
+}
+
+impl From<Refusal> for u32 {
+    ghost use Rattle.model.specs.Refusal.{number_of};
+
+    ghost from_gives = { λ r n. n ≡ number_of r };
+
+    fn from(refusal: Refusal) -> u32 {
+        refusal as u32
+    }
+}
+
+// A refusal with the line of the sheet, or the row of the export, that it names; 0 where it names none.
+#[derive(Clone, Copy, Debug, PartialEq, Eq)]
+pub struct Fault {
+    pub refusal: Refusal,
+    pub line: u32,
+}
+
+// A refusal with the line that it names of a text of any length.
+#[derive(Clone, Copy, Debug, PartialEq, Eq)]
+pub struct TextFault {
+    pub refusal: Refusal,
+    pub line: usize,
+}
+
+impl From<Fault> for TextFault {
+    ghost use Rattle.model.specs.Refusal.{text_fault};
+
+    ghost from_gives = { λ f g. g ≡ text_fault f };
+
+    fn from(fault: Fault) -> TextFault {
+        TextFault {
+            refusal: fault.refusal,
+            line: fault.line as usize,
+        }
+    }
+}
 
 // A form of sheets, which the line `sheet` chooses: the most keys, commands, messages and letters that such a sheet
 // may have, the bytes of the letters of its low turns and of the first owner's, and whether there is a second owner,
@@ -130,7 +188,7 @@ impl Form {
 }
 
 // An entry of a message: absent, or one number.
-#[derive(Clone, Copy)]
+#[derive(Clone, Copy, PartialEq, Eq)]
 pub enum Entry {
     Absent,
     Number(i32),
@@ -145,21 +203,21 @@ pub struct Field {
 }
 
 // The owners of secrets. In a sheet of the first form all are A's.
-#[derive(Clone, Copy)]
+#[derive(Clone, Copy, PartialEq, Eq)]
 pub enum Owner {
     A,
     B,
 }
 
 // A key is open, or secret with its owner and its dummy.
-#[derive(Clone, Copy)]
+#[derive(Clone, Copy, PartialEq, Eq)]
 pub enum Key {
     Open,
     Secret(Owner, i32),
 }
 
 // The words of the commands.
-#[derive(Clone, Copy)]
+#[derive(Clone, Copy, PartialEq, Eq)]
 pub enum Op {
     Set,
     Add,
@@ -190,7 +248,7 @@ pub struct Command {
 }
 
 // The operand that a part of a command's line gives.
-#[derive(Clone, Copy)]
+#[derive(Clone, Copy, PartialEq, Eq)]
 pub enum Operand {
     InV,
     InW,
@@ -200,22 +258,11 @@ pub enum Operand {
 }
 
 // The kind of call that a command is.
-#[derive(Clone, Copy)]
+#[derive(Clone, Copy, PartialEq, Eq)]
 pub enum Call {
     Neither,
     Receives,
     Sends,
-}
-
-// How many calls such a command makes.
-fn calls_by(call: Call) -> usize
-    ensures { (result ≡ calls_by call) × (result ≤ 1) }
-{
-    match call {
-        Call::Neither => 0,
-        Call::Receives => 1,
-        Call::Sends => 1,
-    }
 }
 
 // What one of the four operations gives: the value that is stored, and 1 if its exact result lay outside the range, else 0.
@@ -226,7 +273,7 @@ pub struct Computed {
 }
 
 // An execution's level, which is also a letter of turns: L, or that of an owner.
-#[derive(Clone, Copy)]
+#[derive(Clone, Copy, PartialEq, Eq)]
 pub enum Level {
     Low,
     High(Owner),
@@ -242,6 +289,7 @@ pub struct Execution {
     pub vars: [i32; VARIABLES],
 }
 
+// Each method takes the record whole and gives back the next one, the form that document 01 names.
 impl Execution {
     // The record at first: all 0.
     pub fn begun() -> Execution
@@ -260,21 +308,21 @@ impl Execution {
         requires { (self.place < 4294967296) × (self.calls < 4294967296) }
         ensures { result ≡ called_of self }
     {
-        self.place = self.place + 1;
-        self.calls = self.calls + 1;
+        self.place += 1;
+        self.calls += 1;
         self
     }
 
-    // The next record after a command of this kind of call: the variable v has the value of its effect, and the execution goes on at its place, with the clamped
-    // results by then.
+    // The next record after a command of this kind of call: the variable v has the value of its effect, and the
+    // execution goes on at its place, with the clamped results by then.
     //
-    // The places of the array are constants here and in `run_step::holds`, so that a compiler that sees both stores the one change and copies no record.
+    // The places of the array are constants here and in `run_step::holds`, so that a compiler that sees both stores the
+    // one change and copies no record.
     pub fn after(mut self, v: usize, call: Call, effect: Effect) -> Execution
         requires { (v < variables) × (self.calls < 4294967296) }
         ensures { result ≡ after_of self v call effect }
     {
         let value = effect.value;
-        let calls = self.calls + calls_by(call);
         match v {
             0 => self.vars[0] = value,
             1 => self.vars[1] = value,
@@ -286,7 +334,7 @@ impl Execution {
             _ => self.vars[7] = value,
         }
         self.place = effect.place;
-        self.calls = calls;
+        self.calls += usize::from(call != Call::Neither);
         self.clamped = effect.clamped;
         self
     }
@@ -302,18 +350,28 @@ pub struct Effect {
 }
 
 // The clock of a run: the positions used, and the low steps.
-#[derive(Clone, Copy)]
+#[derive(Clone, Copy, Default)]
 pub struct Clock {
     pub positions: usize,
     pub steps: usize,
 }
 
-// How a run ends from its state.
-#[derive(Clone, Copy)]
+// How a run ends from its state, by the number that is told.
+#[derive(Clone, Copy, PartialEq, Eq)]
 pub enum Ending {
-    Stopped,
-    LettersUsed,
-    NoRoom,
+    Stopped = 0,
+    LettersUsed = 31,
+    NoRoom = 32,
+}
+
+impl From<Ending> for u32 {
+    ghost use Rattle.model.specs.Answer.{ending_number};
+
+    ghost from_gives = { λ e n. n ≡ ending_number e };
+
+    fn from(ending: Ending) -> u32 {
+        ending as u32
+    }
 }
 
 // What a run counts.
@@ -326,11 +384,11 @@ pub struct Counts {
     pub clamped: u32,
 }
 
-// What a run answers: an ending with its counts, or a refusal's number and line.
+// What a run that ends comes to: its ending, with what it counted.
 #[derive(Clone, Copy)]
-pub enum Answer {
-    Ended(Ending, Counts),
-    Refused(u32, u32),
+pub struct Ended {
+    pub ending: Ending,
+    pub counts: Counts,
 }
 
 // What the writing of a text answers: 0 or a refusal's number, the line that it names, and the bytes written. The line may be any of a text of any length.

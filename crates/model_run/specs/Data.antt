@@ -19,5 +19,4 @@ pub use Rattle.model.specs.declared.Clock.{Clock}
 pub use Rattle.model.specs.declared.Ending.{Ending}
 pub use Rattle.model.specs.declared.Ending.TheVariants.{Stopped, LettersUsed, NoRoom}
 pub use Rattle.model.specs.declared.Counts.{Counts}
-pub use Rattle.model.specs.declared.Answer.{Answer}
-pub use Rattle.model.specs.declared.Answer.TheVariants.{Ended, Refused}
+pub use Rattle.model.specs.RunAnswer.{Answer, Ended, Refused}

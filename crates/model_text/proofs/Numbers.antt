@@ -10,7 +10,7 @@ use Rattle.model.specs.{Parsed.got, Text.class_of, Number.digits as read_digits,
 use Rattle.model.specs.{Limits.greatest_number, Limits.least_number, Decimal.digits, Decimal.width_to, Decimal.width, Decimal.natural, Decimal.whole}
 use Rattle.model.specs.Accepted.{InRange}
 use Rattle.model.proofs.{Decimal.digits-length, Decimal.tens, Decimal.tens-last}
-use Rattle.model_text.proofs.TextLaws.{digit-class, negative_ok, positive_ok}
+use Rattle.model_text.proofs.TextLaws.{digit-class, from-one-ok, negative_ok, positive_ok}
 use Rattle.model_text.proofs.Bytes.{Spans, spans-wider, every_append}
 
 -- ---- Digits
@@ -149,7 +149,7 @@ plain-read (b ∷ s) l h = let n : b ≡ 45 → ⊥ = λ e. omega (arith, h.0.0)
 pub whole-read : (z : ℤ) → InRange z → number (whole z) ≡ got z
 unfolding whole
 whole-read (pos n) h = plain-read (natural n) (natural-some n) (natural-spans n) ∙ positive_ok (natural n) n (natural-read greatest_number n (omega arith) h)
-whole-read (negsuc n) h = unfold number in negative_ok (natural (suc n)) (suc n) (natural-read least_number (suc n) (omega arith) (omega arith)) (omega arith)
+whole-read (negsuc n) h = unfold number in negative_ok (natural (suc n)) (suc n) (from-one-ok least_number (suc n) (natural (suc n)) (natural-read least_number (suc n) (omega arith) (omega arith)) (omega arith))
 
 pub whole-spans : (z : ℤ) → Spans 45 57 (whole z)
 unfolding whole

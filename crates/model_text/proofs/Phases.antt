@@ -7,7 +7,6 @@ use native.Mathlib.Omega.{arith}
 use lib.{ListN.length, ListN.length-append, Seq.append_snoc}
 use Rattle.model.specs.{Parsed.Parsed, Parsed.need, Parsed.◌>>◌, Parsed.◌>>=◌, Text.same, Text.equals_sign, Phase.Phase, Phase.got, Phase.refused, Phase.after}
 use Rattle.model.specs.{Phase.numbered, Phase.one, Phase.onward, Phase.each_line, Phase.many, Phase.one_more, Phase.some, Accepted.Every}
-use Rattle.model.specs.Parsed as Parsed
 use Rattle.model.proofs.Parsed.{never as never-got}
 use Rattle.model_text.proofs.LineLaws.{same_refl, more-ok}
 use Rattle.model_text.specs.Text.{named}

@@ -236,17 +236,13 @@ unfolding number positive
 number-plain [] e h = absurd (e refl)
 number-plain (b ∷ s) e h = rw (ne_eqb _ _ h)
 
-pub negative-bad : (s : List ℕ) (r : ℕ) → up_to least_number s ≡ refused r → negative s ≡ refused r
-unfolding negative from_one
+pub negative-bad : (s : List ℕ) (r : ℕ) → from_one least_number s ≡ refused r → negative s ≡ refused r
+unfolding negative
 negative-bad s r e = rw e
 
-pub negative-zero : (s : List ℕ) (n : ℕ) → up_to least_number s ≡ got n → n ≡ 0 → negative s ≡ refused 4
-unfolding negative from_one
-negative-zero s n e z = rw (e, z)
-
-pub negative_ok : (s : List ℕ) (n : ℕ) → up_to least_number s ≡ got n → 1 ≤ n → negative s ≡ got (negsuc (pred n))
-unfolding negative from_one
-negative_ok s n e z = rw (e, le-leb _ _ z)
+pub negative_ok : (s : List ℕ) (n : ℕ) → from_one least_number s ≡ got n → negative s ≡ got (negsuc (pred n))
+unfolding negative
+negative_ok s n e = rw e
 
 pub positive-bad : (s : List ℕ) (r : ℕ) → up_to greatest_number s ≡ refused r → positive s ≡ refused r
 unfolding positive

@@ -21,7 +21,7 @@ pub record Packable (c : Command) : Type 0 where
   pub t : c.t < 65536
   pub n : InRange c.n
 
--- the first i of the commands whose numbers are the first count that are held
-pub record Unpacked (held : List ℕ) (count i : ℕ) (commands : List Command) : Type 0 where
+-- the first i of the commands whose numbers are held
+pub record Unpacked (held : List ℕ) (i : ℕ) (commands : List Command) : Type 0 where
   pub size : length commands ≡ command_capacity
-  pub are : (cs : List Command) → Every Packable cs → take count held ≡ map command_number cs → take i commands ≡ take i cs
+  pub are : (cs : List Command) → Every Packable cs → held ≡ map command_number cs → take i commands ≡ take i cs

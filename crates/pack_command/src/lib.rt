@@ -1,14 +1,14 @@
 // A command as one number. A function can be lent a memory of numbers, and not one of commands.
 //
-// The word's place in the table, v, w, k, t and n, from the high bits to the low ones: 4, 3, 3, 4, 16 and 32 of them. What was command_number comes back; what
-// comes of any other number is not said.
+// The word's place in the table, v, w, k, t and n, from the high bits to the low ones: 4, 3, 3, 4, 16 and 32 of them.
+// What was packed comes back; what comes of any other number is not said.
 #![tactic(auto)]
 
-ghost use Rattle.std.specs.Prelude.{◌≡◌, ◌<◌, ◌≤◌, ℤ};
+ghost use Rattle.std.specs.Prelude.{◌≡◌, ◌<◌, ◌≤◌, ℤ, length};
 ghost use Rattle.model.specs.{Accepted.place_of, Accepted.InRange, Stored.command_capacity};
 ghost use Rattle.pack_command.specs.Pack.{Packable, Unpacked, command_number, shifted};
 
-use model::{COMMAND_CAPACITY, Command, Op, StoredJob};
+use model::{COMMAND_CAPACITY, Command, Op, StoredJob, WORDS};
 
 // How many values there is room for; v and w have the same.
 const V_ROOM: u64 = 8;
@@ -22,48 +22,37 @@ const N_ROOM: u64 = 4294967296;
 // n is kept as what it lies above the least number.
 const ABOVE: i64 = 2147483648;
 
+// A word's place in the table.
 pub fn number_of(op: Op) -> u64
     ensures { (result ≡ place_of op) × (result < 15) }
 {
-    match op {
-        Op::Set => 0,
-        Op::Add => 1,
-        Op::Sub => 2,
-        Op::Mul => 3,
-        Op::Div => 4,
-        Op::Read => 5,
-        Op::Has => 6,
-        Op::Put => 7,
-        Op::Drop => 8,
-        Op::IfNeg => 9,
-        Op::IfZero => 10,
-        Op::Jump => 11,
-        Op::Receive => 12,
-        Op::Send => 13,
-        Op::Stop => 14,
-    }
+    op as u64
 }
 
+// The words by their places in the table.
+const OPS: [Op; WORDS as usize] = [
+    Op::Set,
+    Op::Add,
+    Op::Sub,
+    Op::Mul,
+    Op::Div,
+    Op::Read,
+    Op::Has,
+    Op::Put,
+    Op::Drop,
+    Op::IfNeg,
+    Op::IfZero,
+    Op::Jump,
+    Op::Receive,
+    Op::Send,
+    Op::Stop,
+];
+
+// The word at a place; at a number that is no word's place, the last.
 pub fn op_at(n: u64) -> Op
     ensures { (op : Op) → n ≡ place_of op → result ≡ op }
 {
-    match n {
-        0 => Op::Set,
-        1 => Op::Add,
-        2 => Op::Sub,
-        3 => Op::Mul,
-        4 => Op::Div,
-        5 => Op::Read,
-        6 => Op::Has,
-        7 => Op::Put,
-        8 => Op::Drop,
-        9 => Op::IfNeg,
-        10 => Op::IfZero,
-        11 => Op::Jump,
-        12 => Op::Receive,
-        13 => Op::Send,
-        _ => Op::Stop,
-    }
+    OPS[n.min(WORDS as u64 - 1) as usize]
 }
 
 fn shift(n: i32) -> u64
@@ -83,8 +72,7 @@ pub fn pack(c: Command) -> u64
     requires { Packable c }
     ensures { result ≡ command_number c }
 {
-    let op = c.op;
-    let vars = (number_of(op) * V_ROOM + c.v as u64) * V_ROOM + c.w as u64;
+    let vars = (number_of(c.op) * V_ROOM + c.v as u64) * V_ROOM + c.w as u64;
     let all = (vars * K_ROOM + c.k as u64) * T_ROOM + c.t as u64;
     all * N_ROOM + shift(c.n)
 }
@@ -106,18 +94,16 @@ pub fn unpack(x: u64) -> Command
     }
 }
 
-// The first count commands, of their numbers.
+// The commands of these numbers, at the front.
 // Called and not inlined, so that what it makes takes no stack while the program is read.
 #[inline(never)]
-pub fn unpack_all(held: [u64; COMMAND_CAPACITY], count: usize) -> [Command; COMMAND_CAPACITY]
-    requires { count ≤ command_capacity }
-    ensures { Unpacked held count count result }
+pub fn unpack_all(held: &[u64]) -> [Command; COMMAND_CAPACITY]
+    requires { length held.now ≤ command_capacity }
+    ensures { Unpacked held.now (length held.now) result }
 {
     let mut commands = StoredJob::no_commands();
-    let mut i: usize = 0;
-    while i < count {
-        commands[i] = unpack(held[i]);
-        i += 1;
+    for (i, &x) in held.iter().enumerate() {
+        commands[i] = unpack(x);
     }
     commands
 }

@@ -6,14 +6,14 @@ use mathlib.Core.List.{List}
 use native.Mathlib.Omega.{arith}
 use lib.{Dec.ltb, ListN.length, ListN.take, ListN.drop}
 use borrow.Author.Tests.{ltb-true}
-use Rattle.model.specs.{Limits.variables}
+use Rattle.std.specs.Prelude.{Result}
+use Rattle.model.specs.{Limits.variables, Refusal.parsed}
+use Rattle.model.specs.declared.Refusal.{Refusal}
 use Rattle.model_blocks.specs.{Block.test_to, Block.jump_to, Dialect.tested, Dialect.deepest, Dialect.BlockWord}
 use Rattle.pack_command.specs.Pack.{Packable}
-use Rattle.read_text.specs.Text.{natural_as}
-use Rattle.read_text.specs.declared.Natural.{Natural}
 use Rattle.read_command.specs.Command.{parts_after}
 use Rattle.read_blocks.specs.Blocks.{near_by, next_line, Starts, Sane, LineAt}
-use Rattle.read_blocks.specs.declared.Mark.{Mark}
+use Rattle.read_blocks.specs.declared.{Mark.Mark, Line.Line}
 use Rattle.read_blocks.proofs.Goes.{starts-next}
 
 near-small : (t : ℕ) → near_by t < 65536
@@ -37,20 +37,6 @@ pub line-fits : (s : List ℕ) (p : Mark) (e more n : ℕ) → Starts s p → 1 
 line-fits s p e more n h i j k l = (omega arith, omega (arith, h.near), omega (arith, h.near, h.few))
 
 -- the v of a line from the place at on, as it is read in the text from there on
-pub variable-at : (s t : List ℕ) (at f e : ℕ) → t ≡ drop at s → {r x : Natural} → natural_as r ≡ tested (parts_after f (take e t)) → r ≡ x → tested (parts_after f (take e (drop at s))) ≡ natural_as x
-variable-at s t at f e g h q = ap (λ (z : List ℕ). tested (parts_after f (take e z))) (sym g) ∙ sym h ∙ ap natural_as q
-
--- a block within, read on from the line behind p
-pub below : {s : List ℕ} {K d : ℕ} {p q : Mark} {out : List ℕ} {f e : ℕ} {w : BlockWord} (n : ℕ) {t : ℕ} → Sane s K d p out → LineAt s p f e w → d < deepest
-    → 4 * (length s - p.at) + n ≡ t → q ≡ next_line p e 1 → (4 * (length s - q.at) + 3 < t) × Sane s K (d + 1) q out
-below {s} {K} {d} {p} {q} {out} {f} {e} {w} n {t} h line l μ to =
-    let a = ap (λ (x : Mark). x.at) to in (
-      omega (arith, line.inside),
-      record {
-        starts = subst (Starts s) (sym to) (starts-next s p e 1 h.starts line.inside (omega arith));
-        some = h.some;
-        most = h.most;
-        shallow = omega arith;
-        short = h.short;
-      },
-    )
+pub variable-at : (s t : List ℕ) (at : ℕ) (ln : Line) → t ≡ drop at s → {r x : Result ℕ Refusal} → parsed r ≡ tested (parts_after ln.word (take ln.end t)) → r ≡ x
+    → tested (parts_after ln.word (take ln.end (drop at s))) ≡ parsed x
+variable-at s t at ln g h q = ap (λ (z : List ℕ). tested (parts_after ln.word (take ln.end z))) (sym g) ∙ sym h ∙ ap parsed q

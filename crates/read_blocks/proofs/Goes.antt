@@ -7,15 +7,14 @@ use native.Mathlib.{Omega.arith, Nat.add-zero}
 use lib.{ListN.length, ListN.take, ListN.drop, ListN.set, ListN.length-set, Seq.take-set-lt, Seq.set_comm, Seq.set-append_left, Seq.length-take-le}
 use borrow.Author.Tests.{lt-ltb}
 use Rattle.model.specs.Parsed.{got}
-use Rattle.model.specs.declared.Command.{Command}
+use Rattle.model.specs.declared.{Command.Command, TextFault.TextFault}
 use Rattle.model_blocks.specs.Block.{Block, empty, own, if_only, if_else, while, places, test_to, jump_to, translate, ◌then◌}
 use Rattle.model_blocks.specs.Dialect.{else_word, end_word, other_word, own_command, tested, in_if, in_else, in_while, Standing, adding, opening, deepest}
-use Rattle.model_blocks.specs.Dialect as Dialect
 use Rattle.model_blocks.proofs.Behind.{then-empty, then-assoc, places_then, translate-then}
 use Rattle.read_command.specs.Command.{parts_after}
 use Rattle.pack_command.specs.Pack.{command_number}
-use Rattle.read_blocks.specs.Blocks.{next_line, Starts, LineAt, reading, RefusedFrom, Goes, OtherGoes, opener_word, near_by}
-use Rattle.read_blocks.specs.declared.Mark.{Mark}
+use Rattle.read_blocks.specs.Blocks.{next_line, Starts, LineAt, reading, RefusedFrom, refused_by, Goes, OtherGoes, opener_word, near_by}
+use Rattle.read_blocks.specs.declared.{Mark.Mark, Line.Line}
 use Rattle.read_blocks.proofs.Lines.{opener_of, own_read, opens-read, end_read, else-read}
 use Rattle.read_blocks.proofs.Kept.{kept-before, kept-behind}
 
@@ -66,39 +65,39 @@ module _ (K d : ℕ) (s : List ℕ) where
   pub goes_to : {p q r : Mark} {m m' m'' : List ℕ} → r ≡ q → m'' ≡ m' → Goes K d s p q m m' → Goes K d s p r m m''
   goes_to {p} {q} {r} {m} {m'} {m''} f e g = subst (λ (x : Mark). Goes K d s p x m m'') (sym f) (goes-as e g)
 
-  pub refuses-after : {p q : Mark} {m m' : List ℕ} {n l : ℕ} → Goes K d s p q m m' → RefusedFrom K d s q n l → RefusedFrom K d s p n l
-  refuses-after g h o k = g.reads o k ∙ h (adding g.block o) k
+  pub refuses-after : {p q : Mark} {m m' : List ℕ} (x : TextFault) → Goes K d s p q m m' → RefusedFrom K d s q x → RefusedFrom K d s p x
+  refuses-after x g h o k = g.reads o k ∙ h (adding g.block o) k
 
   -- ---- A command of the dialect's own
 
-  pub own-goes : (p : Mark) (f e : ℕ) → LineAt s p f e other_word → Starts s p → (c : Command)
-      → own_command K (take f (take e (drop p.at s))) (parts_after f (take e (drop p.at s))) ≡ got c
-      → (m : List ℕ) → Goes K d s p (next_line p e 1) m (set m p.count (command_number c))
+  pub own-goes : (p : Mark) (ln : Line) → LineAt s p ln other_word → Starts s p → (c : Command)
+      → own_command K (take ln.word (take ln.end (drop p.at s))) (parts_after ln.word (take ln.end (drop p.at s))) ≡ got c
+      → (m : List ℕ) → Goes K d s p (next_line p ln.end 1) m (set m p.count (command_number c))
   unfolding places translate
-  own-goes p f e h i c q m =
+  own-goes p ln h i c q m =
       record {
         block = own c empty;
-        reads = λ o k. own_read K d s p f e h c q o;
+        reads = λ o k. own_read K d s p ln h c q o;
         counts = refl;
         kept = λ j. kept-behind m p.count (command_number c) (omega arith);
-        starts = starts-next s p e 1 i h.inside (omega arith);
+        starts = starts-next s p ln.end 1 i h.inside (omega arith);
         onward = omega arith;
       }
 
   -- ---- Blocks within
 
   -- the line of an `if` or a `while` on v at p, and the lines of its body, up to q
-  module _ (looping : Bool) (p : Mark) (f e : ℕ) (h : LineAt s p f e (opener_word looping)) (i : Starts s p) (l : d < deepest)
-      (v : ℕ) (t : tested (parts_after f (take e (drop p.at s))) ≡ got v) where
-    pub nested-refused : (n x : ℕ) → RefusedFrom K (d + 1) s (next_line p e 1) n x → RefusedFrom K d s p n x
-    nested-refused n x r o k = opens-read K d s p f e looping h l v t o k ∙ r (opening (opener_of looping v) o) (omega (arith, k))
+  module _ (looping : Bool) (p : Mark) (ln : Line) (h : LineAt s p ln (opener_word looping)) (i : Starts s p) (l : d < deepest)
+      (v : ℕ) (t : tested (parts_after ln.word (take ln.end (drop p.at s))) ≡ got v) where
+    pub nested-refused : (x : TextFault) → RefusedFrom K (d + 1) s (next_line p ln.end 1) x → RefusedFrom K d s p x
+    nested-refused x r o k = opens-read K d s p ln looping h l v t o k ∙ r (opening (opener_of looping v) o) (omega (arith, k))
 
-    pub nested-on : {q : Mark} {m m' : List ℕ} (g : Goes K (d + 1) s (next_line p e 1) q m m') (o : Standing) → length o.blocks ≡ d
+    pub nested-on : {q : Mark} {m m' : List ℕ} (g : Goes K (d + 1) s (next_line p ln.end 1) q m m') (o : Standing) → length o.blocks ≡ d
         → reading K s p o ≡ reading K s q (adding g.block (opening (opener_of looping v) o))
-    nested-on g o k = opens-read K d s p f e looping h l v t o k ∙ g.reads (opening (opener_of looping v) o) (omega (arith, k))
+    nested-on g o k = opens-read K d s p ln looping h l v t o k ∙ g.reads (opening (opener_of looping v) o) (omega (arith, k))
 
     -- the test, kept once the body is: its target is behind n commands
-    test-kept : {q : Mark} {m m' : List ℕ} (g : Goes K (d + 1) s (next_line p e 1) q m m') (n : ℕ) → q.count ≤ length m → n < 65536
+    test-kept : {q : Mark} {m m' : List ℕ} (g : Goes K (d + 1) s (next_line p ln.end 1) q m m') (n : ℕ) → q.count ≤ length m → n < 65536
         → take q.count (set m' p.count (command_number (test_to (near_by n) v)))
         ≡ take p.count m ++ (command_number (test_to n v) ∷ map command_number (translate (p.count + 1) g.block))
     test-kept {q} {m} {m'} g n y z =
@@ -106,50 +105,50 @@ module _ (K d : ℕ) (s : List ℕ) where
         kept-before m m' p.count q.count (command_number (test_to (near_by n) v)) (map command_number (translate (p.count + 1) g.block)) (omega arith) (omega arith) (g.kept y)
         ∙ ap (λ (x : ℕ). take p.count m ++ (command_number (test_to x v) ∷ map command_number (translate (p.count + 1) g.block))) (near-is n z)
 
-  module _ (p : Mark) (f e : ℕ) (i : Starts s p) (l : d < deepest) (v : ℕ) (t : tested (parts_after f (take e (drop p.at s))) ≡ got v) where
+  module _ (p : Mark) (ln : Line) (i : Starts s p) (l : d < deepest) (v : ℕ) (t : tested (parts_after ln.word (take ln.end (drop p.at s))) ≡ got v) where
     -- the body of an `if` without an `else`, and its `end` at q
-    pub if-goes : (h : LineAt s p f e (opener_word false)) {q : Mark} {m m' : List ℕ} (g : Goes K (d + 1) s (next_line p e 1) q m m') (f' e' : ℕ) → LineAt s q f' e' end_word → e' ≤ f'
-        → length m < 65536 → Goes K d s p (next_line q e' 0) m (set m' p.count (command_number (test_to (near_by q.count) v)))
+    pub if-goes : (h : LineAt s p ln (opener_word false)) {q : Mark} {m m' : List ℕ} (g : Goes K (d + 1) s (next_line p ln.end 1) q m m') (ln' : Line) → LineAt s q ln' end_word → ln'.end ≤ ln'.word
+        → length m < 65536 → Goes K d s p (next_line q ln'.end 0) m (set m' p.count (command_number (test_to (near_by q.count) v)))
     unfolding places translate ◌then◌
-    if-goes h {q} {m} {m'} g f' e' z a short =
+    if-goes h {q} {m} {m'} g ln' z a short =
         let c = g.counts in
         let b = g.block in
         record {
           block = if_only v b empty;
-          reads = λ o k. nested-on false p f e h i l v t g o k ∙ end_read K d s q f' e' z (record { opener = in_if v; before = o.sofar }) o.blocks b a 0;
+          reads = λ o k. nested-on false p ln h i l v t g o k ∙ end_read K d s q ln' z (record { opener = in_if v; before = o.sofar }) o.blocks b a 0;
           counts = omega (arith, c);
           kept = λ y.
               ap (λ (n : ℕ). take n (set m' p.count (command_number (test_to (near_by q.count) v)))) (add-zero q.count)
-              ∙ test-kept false p f e h i l v t g q.count (omega (arith, y)) (omega (arith, y, short))
+              ∙ test-kept false p ln h i l v t g q.count (omega (arith, y)) (omega (arith, y, short))
               ∙ ap₂ (λ (n : ℕ) (cs : List Command). take p.count m ++ (command_number (test_to n v) ∷ map command_number cs)) c (sym (append-nil (translate (p.count + 1) b)));
-          starts = starts-next s q e' 0 g.starts z.inside (omega arith);
+          starts = starts-next s q ln'.end 0 g.starts z.inside (omega arith);
           onward = omega (arith, g.onward);
         }
 
     -- the body of a `while`, and its `end` at q
-    pub while-goes : (h : LineAt s p f e (opener_word true)) {q : Mark} {m m' : List ℕ} (g : Goes K (d + 1) s (next_line p e 1) q m m') (f' e' : ℕ) → LineAt s q f' e' end_word → e' ≤ f'
+    pub while-goes : (h : LineAt s p ln (opener_word true)) {q : Mark} {m m' : List ℕ} (g : Goes K (d + 1) s (next_line p ln.end 1) q m m') (ln' : Line) → LineAt s q ln' end_word → ln'.end ≤ ln'.word
         → length m < 65536 → length m' ≡ length m
-        → Goes K d s p (next_line q e' 1) m (set (set m' p.count (command_number (test_to (near_by (q.count + 1)) v))) q.count (command_number (jump_to (near_by p.count))))
+        → Goes K d s p (next_line q ln'.end 1) m (set (set m' p.count (command_number (test_to (near_by (q.count + 1)) v))) q.count (command_number (jump_to (near_by p.count))))
     unfolding places translate ◌then◌
-    while-goes h {q} {m} {m'} g f' e' z a short same =
+    while-goes h {q} {m} {m'} g ln' z a short same =
         let c = g.counts in
         let b = g.block in
         let x = command_number (test_to (near_by (q.count + 1)) v) in
         record {
           block = while v b empty;
-          reads = λ o k. nested-on true p f e h i l v t g o k ∙ end_read K d s q f' e' z (record { opener = in_while v; before = o.sofar }) o.blocks b a 1;
+          reads = λ o k. nested-on true p ln h i l v t g o k ∙ end_read K d s q ln' z (record { opener = in_while v; before = o.sofar }) o.blocks b a 1;
           counts = omega (arith, c);
           kept = λ y.
               kept-behind (set m' p.count x) q.count (command_number (jump_to (near_by p.count))) (omega (arith, y, same, length-set m' p.count x))
-              ∙ ap₂ (λ (xs : List ℕ) (n : ℕ). xs ++ (command_number (jump_to n) ∷ [])) (test-kept true p f e h i l v t g (q.count + 1) (omega (arith, y)) (omega (arith, y, short))) (near-is p.count (omega (arith, y, short, c)))
+              ∙ ap₂ (λ (xs : List ℕ) (n : ℕ). xs ++ (command_number (jump_to n) ∷ [])) (test-kept true p ln h i l v t g (q.count + 1) (omega (arith, y)) (omega (arith, y, short))) (near-is p.count (omega (arith, y, short, c)))
               ∙ append_assoc (take p.count m) (command_number (test_to (q.count + 1) v) ∷ map command_number (translate (p.count + 1) b)) (command_number (jump_to p.count) ∷ [])
               ∙ ap₂ (λ (n : ℕ) (xs : List ℕ). take p.count m ++ (command_number (test_to n v) ∷ xs)) (ap (λ (n : ℕ). n + 1) c) (sym (map-append command_number (translate (p.count + 1) b) (jump_to p.count ∷ [])));
-          starts = starts-next s q e' 1 g.starts z.inside (omega arith);
+          starts = starts-next s q ln'.end 1 g.starts z.inside (omega arith);
           onward = omega (arith, g.onward);
         }
 
     -- the first body of an `if`, and what follows its `else` at q, up to r
-    pub else-goes : (h : LineAt s p f e (opener_word false)) {q r : Mark} {m m' m'' : List ℕ} (g : Goes K (d + 1) s (next_line p e 1) q m m') → OtherGoes K d s p.count v q r m' m''
+    pub else-goes : (h : LineAt s p ln (opener_word false)) {q r : Mark} {m m' m'' : List ℕ} (g : Goes K (d + 1) s (next_line p ln.end 1) q m m') → OtherGoes K d s p.count v q r m' m''
         → length m < 65536 → length m' ≡ length m → Goes K d s p r m m''
     unfolding places translate ◌then◌
     else-goes h {q} {r} {m} {m'} {m''} g u short same =
@@ -159,7 +158,7 @@ module _ (K d : ℕ) (s : List ℕ) where
         let first = map command_number (translate (p.count + 1) a) in
         record {
           block = if_else v a b empty;
-          reads = λ o k. nested-on false p f e h i l v t g o k ∙ u.reads o a k;
+          reads = λ o k. nested-on false p ln h i l v t g o k ∙ u.reads o a k;
           counts = omega (arith, c, u.counts);
           kept = λ y.
               u.kept (omega (arith, y, same))
@@ -180,32 +179,32 @@ module _ (K d : ℕ) (s : List ℕ) where
 
   -- ---- An `else` at p, the lines behind it, and its `end` at q
 
-  module _ (p : Mark) (f e : ℕ) (h : LineAt s p f e else_word) (a : e ≤ f) (v t : ℕ) where
+  module _ (p : Mark) (ln : Line) (h : LineAt s p ln else_word) (a : ln.end ≤ ln.word) (v t : ℕ) where
     abbrev in_other : Standing → Block → Standing
     in_other o x = opening (in_else v x) o
 
-    pub other-on : {n x : ℕ} → RefusedFrom K (d + 1) s (next_line p e 1) n x → (o : Standing) (b : Block) → length o.blocks ≡ d
-        → reading K s p (adding b (opening (in_if v) o)) ≡ Dialect.refused n x
+    pub other-on : (x : TextFault) → RefusedFrom K (d + 1) s (next_line p ln.end 1) x → (o : Standing) (b : Block) → length o.blocks ≡ d
+        → reading K s p (adding b (opening (in_if v) o)) ≡ refused_by x
     unfolding ◌then◌
-    other-on r o b k = else-read K d s p f e h v o.sofar o.blocks b a 1 ∙ r (in_other o b) (omega (arith, k))
+    other-on x r o b k = else-read K d s p ln h v o.sofar o.blocks b a 1 ∙ r (in_other o b) (omega (arith, k))
 
-    module _ {q : Mark} {m m' : List ℕ} (g : Goes K (d + 1) s (next_line p e 1) q m m') where
+    module _ {q : Mark} {m m' : List ℕ} (g : Goes K (d + 1) s (next_line p ln.end 1) q m m') where
       pub other-to : (o : Standing) (b : Block) → length o.blocks ≡ d → reading K s p (adding b (opening (in_if v) o)) ≡ reading K s q (adding g.block (in_other o b))
       unfolding ◌then◌
-      other-to o b k = else-read K d s p f e h v o.sofar o.blocks b a 1 ∙ g.reads (in_other o b) (omega (arith, k))
+      other-to o b k = else-read K d s p ln h v o.sofar o.blocks b a 1 ∙ g.reads (in_other o b) (omega (arith, k))
 
-      pub other_goes : (f' e' : ℕ) → LineAt s q f' e' end_word → e' ≤ f' → t < p.count → length m < 65536 → length m' ≡ length m
-          → OtherGoes K d s t v p (next_line q e' 0) m (set (set m' t (command_number (test_to (near_by (p.count + 1)) v))) p.count (command_number (jump_to (near_by q.count))))
+      pub other_goes : (ln' : Line) → LineAt s q ln' end_word → ln'.end ≤ ln'.word → t < p.count → length m < 65536 → length m' ≡ length m
+          → OtherGoes K d s t v p (next_line q ln'.end 0) m (set (set m' t (command_number (test_to (near_by (p.count + 1)) v))) p.count (command_number (jump_to (near_by q.count))))
       unfolding ◌then◌
-      other_goes f' e' z a' before short same =
+      other_goes ln' z a' before short same =
           let c = g.counts in
           let b = g.block in
           record {
             other = b;
-            reads = λ o x k. other-to o x k ∙ end_read K d s q f' e' z (record { opener = in_else v x; before = o.sofar }) o.blocks b a' 0;
+            reads = λ o x k. other-to o x k ∙ end_read K d s q ln' z (record { opener = in_else v x; before = o.sofar }) o.blocks b a' 0;
             counts = omega (arith, c);
             kept = λ y. both-kept m m' p.count q.count (q.count + 0) (map command_number (translate (p.count + 1) b)) before (omega (arith, y, short, c)) (omega arith) (omega (arith, y)) (omega (arith, y, c)) (omega (arith, c)) (omega (arith, y, short)) (g.kept (omega (arith, y)));
-            starts = starts-next s q e' 0 g.starts z.inside (omega arith);
+            starts = starts-next s q ln'.end 0 g.starts z.inside (omega arith);
             onward = omega (arith, g.onward);
           }
         where

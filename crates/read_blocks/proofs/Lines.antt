@@ -6,17 +6,18 @@ use mathlib.Core.List.{List, [], ◌∷◌}
 use native.Mathlib.Omega.{arith}
 use lib.{ListN.length, ListN.take, ListN.drop, ListN.length-drop, Seq.length-take-le}
 use borrow.Author.Tests.{lt-ltb, le-ltb}
-use Rattle.model.specs.{Parsed.Parsed, Parsed.got, Text.bytes, Text.same, Text.space, Text.lines}
-use Rattle.model.specs.Parsed as Parsed
-use Rattle.model.specs.declared.Command.{Command}
+use Rattle.model.specs.{Parsed.Parsed, Parsed.got, Text.bytes, Text.same, Text.space}
+use Rattle.model.specs.Refusal.{number_of}
+use Rattle.model.specs.declared.{Command.Command, Refusal.Refusal, TextFault.TextFault}
+use Rattle.model.specs.declared.Refusal.TheVariants.{TooDeep}
 use Rattle.model_blocks.specs.Block.{Block, own, empty, ◌then◌}
 use Rattle.model_blocks.specs.Dialect.{BlockWord, if_word, else_word, while_word, end_word, other_word, block_word, own_command, tested, alone, Opener, in_if, in_else, in_while, OpenBlock}
 use Rattle.model_blocks.specs.Dialect.{Standing, adding, opening, deepest, on_opening, on_else, closed_block, on_end, line_by, block_line, tree, refused, at_line, read_from}
 use Rattle.model_text.proofs.LineLaws.{split-some}
 use Rattle.read_command.specs.Command.{parts_after}
 use Rattle.read_command.proofs.Laws.{split-word, parts_none, parts-behind, behind}
-use Rattle.read_blocks.specs.Blocks.{next_line, LineAt, NoMore, reading, RefusedFrom, opener_word}
-use Rattle.read_blocks.specs.declared.Mark.{Mark}
+use Rattle.read_blocks.specs.Blocks.{next_line, fault, LineAt, NoMore, reading, refused_by, RefusedFrom, opener_word}
+use Rattle.read_blocks.specs.declared.{Mark.Mark, Line.Line}
 
 -- ---- Which parts there are
 
@@ -40,26 +41,26 @@ module _ (K : ℕ) (s : List ℕ) where
   unfolding read_from
   over_none p h a = rw h
 
-  module _ {p : Mark} {f e : ℕ} {w : BlockWord} (h : LineAt s p f e w) where
+  module _ {p : Mark} {l : Line} {w : BlockWord} (h : LineAt s p l w) where
     abbrev line : List ℕ
-    line = take e (drop p.at s)
+    line = take l.end (drop p.at s)
 
-    pub line-length : length line ≡ e
-    line-length = length-take-le e (drop p.at s) (omega (arith, h.inside, length-drop p.at s))
+    pub line-length : length line ≡ l.end
+    line-length = length-take-le l.end (drop p.at s) (omega (arith, h.inside, length-drop p.at s))
 
     -- what the line says, and then the lines from the next one on
     abbrev said : Standing → Parsed Standing
-    said o = line_by K w (take f line) (parts_after f line) o
+    said o = line_by K w (take l.word line) (parts_after l.word line) o
 
-    pub line_reads : (more : ℕ) (o : Standing) → reading K s p o ≡ at_line p.line (said o) (reading K s (next_line p e more))
+    pub line_reads : (more : ℕ) (o : Standing) → reading K s p o ≡ at_line p.line (said o) (reading K s (next_line p l.end more))
     unfolding read_from block_line
-    line_reads more o = rw (h.first, split-word line f h.word, h.says)
+    line_reads more o = rw (h.first, split-word line l.word h.word, h.says)
 
     pub line_refused : (o : Standing) (r : ℕ) → said o ≡ Parsed.refused r → reading K s p o ≡ refused r p.line
-    line_refused o r q = line_reads 0 o ∙ ap (λ (x : Parsed Standing). at_line p.line x (reading K s (next_line p e 0))) q
+    line_refused o r q = line_reads 0 o ∙ ap (λ (x : Parsed Standing). at_line p.line x (reading K s (next_line p l.end 0))) q
 
-    pub line-got : (more : ℕ) (o o' : Standing) → said o ≡ got o' → reading K s p o ≡ reading K s (next_line p e more) o'
-    line-got more o o' q = line_reads more o ∙ ap (λ (x : Parsed Standing). at_line p.line x (reading K s (next_line p e more))) q
+    pub line-got : (more : ℕ) (o o' : Standing) → said o ≡ got o' → reading K s p o ≡ reading K s (next_line p l.end more) o'
+    line-got more o o' q = line_reads more o ∙ ap (λ (x : Parsed Standing). at_line p.line x (reading K s (next_line p l.end more))) q
 
 -- ---- Each kind of line, where d blocks are open
 
@@ -73,55 +74,55 @@ unfolding line_by
 said-opens K true w ps o = refl
 said-opens K false w ps o = refl
 
-module _ (K d : ℕ) (s : List ℕ) (p : Mark) (f e : ℕ) where
+module _ (K d : ℕ) (s : List ℕ) (p : Mark) (ln : Line) where
   abbrev here : List ℕ
-  here = take e (drop p.at s)
+  here = take ln.end (drop p.at s)
 
   -- a command of the dialect's own
-  module _ (h : LineAt s p f e other_word) where
-    pub own-refused : (n : ℕ) → own_command K (take f here) (parts_after f here) ≡ Parsed.refused n → RefusedFrom K d s p n p.line
+  module _ (h : LineAt s p ln other_word) where
+    pub own-refused : (r : Refusal) → own_command K (take ln.word here) (parts_after ln.word here) ≡ Parsed.refused (number_of r) → RefusedFrom K d s p (fault p r)
     unfolding line_by
-    own-refused n q o k = line_refused K s h o n (rw q)
+    own-refused r q o k = line_refused K s h o (number_of r) (rw q)
 
-    pub own_read : (c : Command) → own_command K (take f here) (parts_after f here) ≡ got c → (o : Standing)
-        → reading K s p o ≡ reading K s (next_line p e 1) (adding (own c empty) o)
+    pub own_read : (c : Command) → own_command K (take ln.word here) (parts_after ln.word here) ≡ got c → (o : Standing)
+        → reading K s p o ≡ reading K s (next_line p ln.end 1) (adding (own c empty) o)
     unfolding line_by
     own_read c q o = line-got K s h 1 o _ (rw q)
 
   -- `if v` and `while v`
-  module _ (looping : Bool) (h : LineAt s p f e (opener_word looping)) where
-    pub opens-deep : deepest ≤ d → RefusedFrom K d s p 52 p.line
+  module _ (looping : Bool) (h : LineAt s p ln (opener_word looping)) where
+    pub opens-deep : deepest ≤ d → {x : TextFault} → x ≡ fault p TooDeep → RefusedFrom K d s p x
     unfolding on_opening
-    opens-deep l o k = line_refused K s h o 52 (said-opens K looping _ _ o ∙ rw (k, le-ltb _ _ l))
+    opens-deep l e o k = line_refused K s h o 52 (said-opens K looping _ _ o ∙ rw (k, le-ltb _ _ l)) ∙ ap refused_by (sym e)
 
     module _ (l : d < deepest) where
-      pub opens-bad : (n : ℕ) → tested (parts_after f here) ≡ Parsed.refused n → RefusedFrom K d s p n p.line
+      pub opens-bad : (r : Refusal) → tested (parts_after ln.word here) ≡ Parsed.refused (number_of r) → {x : TextFault} → x ≡ fault p r → RefusedFrom K d s p x
       unfolding on_opening
-      opens-bad n q o k = line_refused K s h o n (said-opens K looping _ _ o ∙ rw (k, lt-ltb _ _ l, q))
+      opens-bad r q e o k = line_refused K s h o (number_of r) (said-opens K looping _ _ o ∙ rw (k, lt-ltb _ _ l, q)) ∙ ap refused_by (sym e)
 
-      pub opens-read : (v : ℕ) → tested (parts_after f here) ≡ got v → (o : Standing) → length o.blocks ≡ d
-          → reading K s p o ≡ reading K s (next_line p e 1) (opening (opener_of looping v) o)
+      pub opens-read : (v : ℕ) → tested (parts_after ln.word here) ≡ got v → (o : Standing) → length o.blocks ≡ d
+          → reading K s p o ≡ reading K s (next_line p ln.end 1) (opening (opener_of looping v) o)
       unfolding on_opening
       opens-read v q o k = line-got K s h 1 o _ (said-opens K looping _ _ o ∙ rw (k, lt-ltb _ _ l, q))
 
   -- `end`: the innermost block is b
-  module _ (h : LineAt s p f e end_word) where
+  module _ (h : LineAt s p ln end_word) where
     pub end_none : (a : Block) → reading K s p (record { blocks = []; sofar = a }) ≡ refused 51 p.line
     unfolding line_by on_end
     end_none a = line_refused K s h _ 51 refl
 
     module _ (b : OpenBlock) (bs : List OpenBlock) (a : Block) where
-      pub end-bad : f < e → reading K s p (record { blocks = b ∷ bs; sofar = a }) ≡ refused 6 p.line
+      pub end-bad : ln.word < ln.end → reading K s p (record { blocks = b ∷ bs; sofar = a }) ≡ refused 6 p.line
       unfolding line_by on_end
-      end-bad z = line_refused K s h _ 6 (rw (alone-no here f (omega (arith, line-length K s h))))
+      end-bad z = line_refused K s h _ 6 (rw (alone-no here ln.word (omega (arith, line-length K s h))))
 
-      pub end_read : e ≤ f → (more : ℕ) → reading K s p (record { blocks = b ∷ bs; sofar = a })
-          ≡ reading K s (next_line p e more) (record { blocks = bs; sofar = b.before then closed_block b.opener a })
+      pub end_read : ln.end ≤ ln.word → (more : ℕ) → reading K s p (record { blocks = b ∷ bs; sofar = a })
+          ≡ reading K s (next_line p ln.end more) (record { blocks = bs; sofar = b.before then closed_block b.opener a })
       unfolding line_by on_end
-      end_read z more = line-got K s h more _ _ (rw (alone-yes here f (omega (arith, line-length K s h))))
+      end_read z more = line-got K s h more _ _ (rw (alone-yes here ln.word (omega (arith, line-length K s h))))
 
   -- `else`
-  module _ (h : LineAt s p f e else_word) where
+  module _ (h : LineAt s p ln else_word) where
     pub else-none : (a : Block) → reading K s p (record { blocks = []; sofar = a }) ≡ refused 51 p.line
     unfolding line_by on_else
     else-none a = line_refused K s h _ 51 refl
@@ -138,14 +139,14 @@ module _ (K d : ℕ) (s : List ℕ) (p : Mark) (f e : ℕ) where
       unfolding line_by on_else
       else-else first = line_refused K s h _ 51 refl
 
-      pub else-bad : f < e → reading K s p (within (in_if v)) ≡ refused 6 p.line
+      pub else-bad : ln.word < ln.end → reading K s p (within (in_if v)) ≡ refused 6 p.line
       unfolding line_by on_else
-      else-bad z = line_refused K s h _ 6 (rw (alone-no here f (omega (arith, line-length K s h))))
+      else-bad z = line_refused K s h _ 6 (rw (alone-no here ln.word (omega (arith, line-length K s h))))
 
-      pub else-read : e ≤ f → (more : ℕ) → reading K s p (within (in_if v))
-          ≡ reading K s (next_line p e more) (record { blocks = record { opener = in_else v a; before = before } ∷ bs; sofar = empty })
+      pub else-read : ln.end ≤ ln.word → (more : ℕ) → reading K s p (within (in_if v))
+          ≡ reading K s (next_line p ln.end more) (record { blocks = record { opener = in_else v a; before = before } ∷ bs; sofar = empty })
       unfolding line_by on_else
-      else-read z more = line-got K s h more _ _ (rw (alone-yes here f (omega (arith, line-length K s h))))
+      else-read z more = line-got K s h more _ _ (rw (alone-yes here ln.word (omega (arith, line-length K s h))))
 
 -- ---- A line with one of the four words is not empty
 
@@ -156,10 +157,6 @@ no_word while_word = false
 no_word end_word = false
 no_word other_word = true
 
-pub opener-word : (looping : Bool) → no_word (opener_word looping) ≡ false
-opener-word true = refl
-opener-word false = refl
-
 word-empty : (f : ℕ) → block_word (take f []) ≡ other_word
 unfolding block_word bytes same
 word-empty zero = refl
@@ -169,5 +166,5 @@ long : (l : List ℕ) (f e : ℕ) (w : BlockWord) → block_word (take f (take e
 long l f zero w h n = absurd (true≢false (ap no_word (sym (word-empty f) ∙ h) ∙ n))
 long l f (suc e) w h n = omega arith
 
-pub line-long : (s : List ℕ) {p : Mark} {f e : ℕ} {w : BlockWord} → LineAt s p f e w → no_word w ≡ false → 1 ≤ e
-line-long s {p} {f} {e} {w} h n = long (drop p.at s) f e w h.says n
+pub line-long : (s : List ℕ) {p : Mark} {l : Line} {w : BlockWord} → LineAt s p l w → no_word w ≡ false → 1 ≤ l.end
+line-long s {p} {l} {w} h n = long (drop p.at s) l.word l.end w h.says n

@@ -1,16 +1,18 @@
 -- A whole text: the refusals before its lines, and what its lines come to.
 use Prim.Native.Nat.{ℕ, ◌<◌, ◌≤◌}
-use mathlib.Core.Path.{◌≡◌, refl, ◌∙◌}
+use mathlib.Core.Path.{◌≡◌, refl, sym, ap, ◌∙◌}
 use mathlib.Core.List.{List}
 use native.Mathlib.Omega.{arith}
 use borrow.Author.Tests.{le-leb, lt-leb}
+use Rattle.std.specs.Prelude.{Ok}
 use Rattle.model.specs.{Limits.most_keys, Text.lines}
+use Rattle.model.specs.declared.TextFault.{TextFault}
+use Rattle.model.specs.declared.Refusal.TheVariants.{UnpairedBlock}
 use Rattle.model_blocks.specs.{Block.◌then◌, Dialect.else_word, Dialect.end_word, Dialect.nothing_open, Dialect.refused, Dialect.read_from, Dialect.read_blocks}
 use Rattle.model_text.specs.Found.{spoilt_line}
 use Rattle.model_text.proofs.TextLaws.{text-spoilt, text-whole}
-use Rattle.read_blocks.specs.Blocks.{LineAt, reading, RefusedFrom, Goes, NoMore, ProgramRead}
-use Rattle.read_blocks.specs.declared.Mark.{Mark}
-use Rattle.read_blocks.specs.declared.Translated.TheVariants.{Got}
+use Rattle.read_blocks.specs.Blocks.{LineAt, fault, reading, refused_by, RefusedFrom, Goes, NoMore, ProgramRead}
+use Rattle.read_blocks.specs.declared.{Mark.Mark, Line.Line}
 use Rattle.read_blocks.proofs.Lines.{over_none, end_none, else-none}
 
 -- a number of keys beyond its limit
@@ -36,19 +38,19 @@ module _ (K : ℕ) (s : List ℕ) (keyed : 1 ≤ K) (most : K ≤ most_keys) whe
     unfolding read_blocks
     from-top = rw (le-leb 1 K keyed, le-leb K most_keys most) (text-whole refused s (read_from K 1 nothing_open (lines s)) h)
 
-    pub whole-refused : (n l : ℕ) → RefusedFrom K 0 s top n l → read_blocks K s ≡ refused n l
-    whole-refused n l r = from-top ∙ r nothing_open refl
+    pub whole-refused : (x : TextFault) → RefusedFrom K 0 s top x → read_blocks K s ≡ refused_by x
+    whole-refused x r = from-top ∙ r nothing_open refl
 
     module _ {q : Mark} {m m' : List ℕ} (g : Goes K 0 s top q m m') where
-      pub whole-read : NoMore s q → ProgramRead K s m m' (Got q.count)
+      pub whole-read : NoMore s q → ProgramRead K s m m' (Ok q.count)
       unfolding ProgramRead ◌then◌
       whole-read e = (g.block, from-top ∙ g.reads nothing_open refl ∙ over_none K s q e g.block, omega (arith, g.counts), g.kept)
 
       -- a line that closes no block
-      pub whole-else : {f e : ℕ} → LineAt s q f e else_word → read_blocks K s ≡ refused 51 q.line
+      pub whole-else : {ln : Line} → LineAt s q ln else_word → {x : TextFault} → x ≡ fault q UnpairedBlock → read_blocks K s ≡ refused_by x
       unfolding ◌then◌
-      whole-else {f} {e} h = from-top ∙ g.reads nothing_open refl ∙ else-none K 0 s q f e h g.block
+      whole-else {ln} h e = from-top ∙ g.reads nothing_open refl ∙ else-none K 0 s q ln h g.block ∙ ap refused_by (sym e)
 
-      pub whole-end : {f e : ℕ} → LineAt s q f e end_word → read_blocks K s ≡ refused 51 q.line
+      pub whole-end : {ln : Line} → LineAt s q ln end_word → {x : TextFault} → x ≡ fault q UnpairedBlock → read_blocks K s ≡ refused_by x
       unfolding ◌then◌
-      whole-end {f} {e} h = from-top ∙ g.reads nothing_open refl ∙ end_none K 0 s q f e h g.block
+      whole-end {ln} h e = from-top ∙ g.reads nothing_open refl ∙ end_none K 0 s q ln h g.block ∙ ap refused_by (sym e)

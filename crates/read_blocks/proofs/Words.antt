@@ -6,14 +6,13 @@ use mathlib.Core.List.{List, [], ◌∷◌}
 use native.Mathlib.Omega.{arith}
 use lib.{ListN.length, ListN.take}
 use Rattle.model.specs.{Limits.variables, Limits.most_keys, Parsed.Parsed, Parsed.got, Parsed.need, Parsed.◌>>=◌, Parsed.◌>>◌, Text.bytes, Number.up_to}
-use Rattle.model.specs.Parsed as Parsed
 use Rattle.model.specs.{Command.Row, Command.table, Command.row_of, Command.by_row, Command.limits}
 use Rattle.model.specs.declared.{Op.Op, Operand.Operand, Command.Command}
 use Rattle.model.proofs.Parsed.{never}
 use Rattle.model_blocks.proofs.Own.{own_of, own-empty}
 use Rattle.model_blocks.specs.Block.{way_of, allowed}
 use Rattle.model_blocks.specs.Dialect.{block_word, own_command, tested}
-use Rattle.read_command.specs.{Code.code_of, Code.said_by, Code.lookup, Command.by_word, Command.one_of, Command.single}
+use Rattle.read_command.specs.{Code.code_of, Code.said_by, Code.lookup, Command.one_of, Command.single}
 use Rattle.read_command.proofs.Words.{Bytes, code_same, word-short, small}
 use Rattle.pack_command.specs.Pack.{Packable}
 use Rattle.read_dialect.specs.Words.{by_code, left_out}
@@ -53,28 +52,28 @@ own-by K w ps = go (row_of table w)
     go (got x) = refl
     go (Parsed.refused n) = refl
 
-module _ (K : ℕ) (w : List ℕ) (ps : List (List ℕ)) (r : Parsed (Op × List Operand)) (h : r ≡ lookup w) where
-  pub own-left-out : true ≡ left_out r → own_command K w ps ≡ Parsed.refused 6
-  own-left-out e = own-by K w ps ∙ ap (λ (x : Parsed (Op × List Operand)). own_by K x ps) (sym h) ∙ go r e
-    where
-      no : (t : Bool) (o : Parsed Command) → true ≡ not t → (need t 6 >> o) ≡ Parsed.refused 6
-      no true o e = absurd (true≢false e)
-      no false o e = refl
+module _ (K : ℕ) (w : List ℕ) (ps : List (List ℕ)) where
+  own_as : (r : Parsed (Op × List Operand)) → r ≡ lookup w → own_command K w ps ≡ own_by K r ps
+  own_as r h = own-by K w ps ∙ ap (λ (x : Parsed (Op × List Operand)). own_by K x ps) (sym h)
 
-      go : (r : Parsed (Op × List Operand)) → true ≡ left_out r → own_by K r ps ≡ Parsed.refused 6
-      go (got x) e = no (allowed (way_of x.0)) _ e
-      go (Parsed.refused n) e = absurd (true≢false e)
+  -- the table lacks it
+  pub own-unknown : {n : ℕ} → Parsed.refused n ≡ lookup w → Parsed.refused n ≡ own_command K w ps
+  own-unknown {n} h = sym (own_as (Parsed.refused n) h)
 
-  pub own-by-word : false ≡ left_out r → own_command K w ps ≡ by_word (limits K 0) r ps
-  own-by-word e = own-by K w ps ∙ ap (λ (x : Parsed (Op × List Operand)). own_by K x ps) (sym h) ∙ go r e
-    where
-      yes' : (t : Bool) (o : Parsed Command) → false ≡ not t → (need t 6 >> o) ≡ o
-      yes' true o e = refl
-      yes' false o e = absurd (true≢false (sym e))
+  module _ (o : Op) (os : List Operand) (h : got (o, os) ≡ lookup w) where
+    pub own-left-out : true ≡ left_out o → own_command K w ps ≡ Parsed.refused 6
+    own-left-out e = own_as (got (o, os)) h ∙ go (allowed (way_of o)) _ e
+      where
+        go : (t : Bool) (c : Parsed Command) → true ≡ not t → (need t 6 >> c) ≡ Parsed.refused 6
+        go true c e = absurd (true≢false e)
+        go false c e = refl
 
-      go : (r : Parsed (Op × List Operand)) → false ≡ left_out r → own_by K r ps ≡ by_word (limits K 0) r ps
-      go (got x) e = yes' (allowed (way_of x.0)) _ e
-      go (Parsed.refused n) e = refl
+    pub own-by-word : false ≡ left_out o → own_command K w ps ≡ by_row (limits K 0) o os ps
+    own-by-word e = own_as (got (o, os)) h ∙ go (allowed (way_of o)) _ e
+      where
+        go : (t : Bool) (c : Parsed Command) → false ≡ not t → (need t 6 >> c) ≡ c
+        go true c e = refl
+        go false c e = absurd (true≢false (sym e))
 
 -- It has room in a number, and its line is not empty.
 pub own-packable : (K : ℕ) → 1 ≤ K → K ≤ most_keys → (w : List ℕ) (ps : List (List ℕ)) {c : Command} → own_command K w ps ≡ got c → Packable c

@@ -1,28 +1,31 @@
 // Programs with blocks: the lines of a text, and the commands that they are translated to.
 //
-// Reading a block and reading what stands in it call each other, the unread length falling: from a block to one within it by a line at least. The lines of one
-// block are read in a loop, so that the calls are as deep as the blocks and no deeper, however long the text is.
+// Reading a block and reading what stands in it call each other, the unread length falling: from a block to one within
+// it by a line at least. The lines of one block are read in a loop, so that the calls are as deep as the blocks and no
+// deeper, however long the text is.
 //
-// The commands are kept as numbers in a memory that is lent. Those behind its end are counted and not kept: a text with too many commands is still read to its
-// last line.
+// The commands are kept as numbers in a memory that is lent. Those behind its end are counted and not kept: a text with
+// too many commands is still read to its last line.
 #![tactic(auto)]
 
 ghost use Rattle.std.specs.Prelude.{◌≡◌, ◌+◌, ◌<◌, ◌≤◌, length, take, set};
-ghost use Rattle.model.specs.{Limits.most_keys, Limits.variables, Text.find, Text.space};
-ghost use Rattle.model_blocks.specs.{Block.test_to, Block.jump_to, Block.way_of, Block.allowed, Dialect.own_command, Dialect.tested, Dialect.else_word};
-ghost use Rattle.read_text.specs.Text.{natural_as};
-ghost use Rattle.read_command.specs.{Code.code_of, Command.line_as, Command.parts_after};
-ghost use Rattle.read_blocks.specs.Blocks.{next_line, Sane, LineAt, ItemRead, BlockRead, NestedRead, OtherAsked, OtherRead, OwnAsked, OwnRead};
+ghost use Rattle.model.specs.{Limits.most_keys, Limits.variables, Text.find, Text.space, Refusal.parsed};
+ghost use Rattle.model_blocks.specs.{Block.test_to, Block.jump_to, Dialect.own_command, Dialect.tested, Dialect.else_word};
+ghost use Rattle.read_command.specs.{Code.code_of, Command.parts_after};
+ghost use Rattle.read_blocks.specs.Blocks.{next_line, fault, Sane, LineAt, ItemRead, BlockRead, NestedRead, OtherAsked, OtherRead, OwnAsked, OwnRead};
 ghost use Rattle.read_blocks.specs.Blocks.{ProgramRead, near_by, opener_word};
 
-use model::{Command, Form, LAST_VARIABLE, Op};
-use read_command::{FirstWord, Line, first_word, one_part, read_operands, word_by_code};
+use model::{Command, Form, LAST_VARIABLE, Op, Refusal, TextFault};
+use read_command::{FirstWord, first_word, one_part, read_operands, word_by_code};
 use read_dialect::{LineWord, is_left_out, keep, said_by};
 use read_line::spoilt_line;
-use read_text::{Natural, find_byte};
+use read_text::find_byte;
 
 // "nested at most 8 deep"
 const DEEPEST: usize = 8;
+
+// A program has one key at least.
+const FEWEST_KEYS: u64 = 1;
 
 // Where reading stands: the start of the next line, its number, and how many commands there are so far.
 #[derive(Clone, Copy)]
@@ -32,24 +35,50 @@ pub struct Mark {
     pub count: usize,
 }
 
-// What stands at a place: a command with the blocks in it, and the place behind it; nothing, as the text is over; an `else` or an `end`, with the ends of its
-// word and of its line; or a refusal's number and line.
-#[derive(Clone, Copy)]
-pub enum Item {
-    Got(Mark),
-    Over,
-    Else(usize, usize),
-    End(usize, usize),
-    Refused(u32, usize),
+impl Mark {
+    // The line behind this one, which ends at e, with so many commands more before it.
+    fn next_line(self, e: usize, more: usize) -> Mark
+        requires { (self.at + e + 1 < 18446744073709551616) × (self.line + 1 < 18446744073709551616) × (self.count + more < 18446744073709551616) }
+        ensures { result ≡ next_line self e more }
+    {
+        Mark {
+            at: self.at + e + 1,
+            line: self.line + 1,
+            count: self.count + more,
+        }
+    }
+
+    // The refusal of this line.
+    fn fault(self, refusal: Refusal) -> TextFault
+        ensures { result ≡ fault self refusal }
+    {
+        TextFault {
+            refusal,
+            line: self.line,
+        }
+    }
 }
 
-// Why the lines of a block end.
+// A line of a block's own words: where its first word ends, and where it ends itself.
+#[derive(Clone, Copy)]
+pub struct Line {
+    pub word: usize,
+    pub end: usize,
+}
+
+// Why the lines of a block end: the text is over, or there is a line with `else` or `end`.
 #[derive(Clone, Copy)]
 pub enum Close {
     Over,
-    Else(usize, usize),
-    End(usize, usize),
-    Refused(u32, usize),
+    Else(Line),
+    End(Line),
+}
+
+// What stands at a place: a command with the blocks in it, and the place behind it; or what ends a block.
+#[derive(Clone, Copy)]
+pub enum Item {
+    Got(Mark),
+    Stop(Close),
 }
 
 // The lines of a block: why they end, and where.
@@ -59,36 +88,30 @@ pub struct Body {
     pub place: Mark,
 }
 
-// The count of commands of a text, or a refusal's number and line.
-#[derive(Clone, Copy)]
-pub enum Translated {
-    Got(usize),
-    Refused(u32, usize),
-}
-
-// A command of the dialect on the line l, whose first word has this number and ends at e.
-fn own_command(l: &[u8], keys: u64, code: u64, e: usize) -> Line
-    requires { (1 ≤ keys) × (keys ≤ most_keys) × (e ≡ find space l.now) × (code ≡ code_of (take e l.now)) }
-    ensures { line_as result ≡ own_command keys (take e l.now) (parts_after e l.now) }
+// A command of the dialect on the line l, whose first word is w.
+fn own_command(l: &[u8], keys: u64, w: FirstWord) -> Result<Command, Refusal>
+    requires { (1 ≤ keys) × (keys ≤ most_keys) × (w.end ≡ find space l.now) × (w.code ≡ code_of (take w.end l.now)) }
+    ensures { parsed result ≡ own_command keys (take w.end l.now) (parts_after w.end l.now) }
 {
-    let word = word_by_code(code);
-    if is_left_out(word) {
-        return Line::Refused(6);
+    let (op, shape) = word_by_code(w.code)?;
+    if is_left_out(op) {
+        return Err(Refusal::BadCommand);
     }
-    read_operands(word, l, e, keys, 0)
+    read_operands(op, shape, l, w.end, keys, 0)
 }
 
 // The v of `if v` and `while v`, of a line whose first word ends at e.
-fn variable_of(l: &[u8], e: usize) -> Natural
-    ensures { natural_as result ≡ tested (parts_after e l.now) }
+fn variable_of(l: &[u8], e: usize) -> Result<u64, Refusal>
+    ensures { parsed result ≡ tested (parts_after e l.now) }
 {
     if l.len() <= e {
-        return Natural::Refused(6);
+        return Err(Refusal::BadCommand);
     }
     one_part(&l[e + 1..], LAST_VARIABLE)
 }
 
-// A target as a command's number has room for it. One that is too far stands in a program that is too long, whose commands are not used.
+// A target as a command's number has room for it. One that is too far stands in a program that is too long, whose
+// commands are not used.
 fn near(t: usize) -> u32
     ensures { result ≡ near_by t }
 {
@@ -127,87 +150,60 @@ fn jump_to(t: usize) -> Command
     }
 }
 
-// The line behind the one at p, which ends at e, with so many commands more before it.
-fn next_line(p: Mark, e: usize, more: usize) -> Mark
-    requires { (p.at + e + 1 < 18446744073709551616) × (p.line + 1 < 18446744073709551616) × (p.count + more < 18446744073709551616) }
-    ensures { result ≡ next_line p e more }
-{
-    Mark {
-        at: p.at + e + 1,
-        line: p.line + 1,
-        count: p.count + more,
-    }
-}
-
 // A command of the dialect's own on the line l at p.
-fn read_own(l: &[u8], keys: u64, p: Mark, w: FirstWord, out: &mut [u64]) -> Item
+fn read_own(l: &[u8], keys: u64, p: Mark, w: FirstWord, out: &mut [u64]) -> Result<Mark, TextFault>
     requires { OwnAsked keys l.now p w out.old }
     ensures { OwnRead keys l.now w.end p out.old out.new result }
 {
-    match own_command(l, keys, w.code, w.end) {
-        Line::Refused(r) => Item::Refused(r, p.line),
-        Line::Got(c) => {
-            keep(out, p.count, c);
-            Item::Got(next_line(p, l.len(), 1))
-        }
-    }
+    let c = own_command(l, keys, w).map_err(|refusal| p.fault(refusal))?;
+    keep(out, p.count, c);
+    Ok(p.next_line(l.len(), 1))
 }
 
-// The lines of a block from a place on, up to the first that does not stand in it.
+// The lines of a block from a place on, up to the first that does not stand in it. The text, the number of keys and the
+// memory are handed on one by one: behind one `&mut`, each contract would have to say that text and keys stay.
 #[cycle(blocks)]
-fn read_block(s: &[u8], keys: u64, depth: usize, from: Mark, out: &mut [u64]) -> Body
+fn read_block(
+    s: &[u8],
+    keys: u64,
+    depth: usize,
+    from: Mark,
+    out: &mut [u64],
+) -> Result<Body, TextFault>
     requires { Sane s.now keys depth from out.old }
     ensures { BlockRead keys depth s.now from out.old out.new result }
 {
     let mut p = from;
-    let stop: Close;
     loop {
-        match read_item(s, keys, depth, p, out) {
-            Item::Got(q) => {
-                p = q;
-            }
-            Item::Over => {
-                stop = Close::Over;
-                break;
-            }
-            Item::Else(f, e) => {
-                stop = Close::Else(f, e);
-                break;
-            }
-            Item::End(f, e) => {
-                stop = Close::End(f, e);
-                break;
-            }
-            Item::Refused(number, line) => {
-                stop = Close::Refused(number, line);
-                break;
-            }
+        match read_item(s, keys, depth, p, out)? {
+            Item::Got(q) => p = q,
+            Item::Stop(stop) => return Ok(Body { stop, place: p }),
         }
     }
-    Body { stop, place: p }
 }
 
 // What stands at a place: by the first word of the line there.
 #[cycle(blocks)]
-fn read_item(s: &[u8], keys: u64, depth: usize, p: Mark, out: &mut [u64]) -> Item
+fn read_item(s: &[u8], keys: u64, depth: usize, p: Mark, out: &mut [u64]) -> Result<Item, TextFault>
     requires { Sane s.now keys depth p out.old }
     ensures { ItemRead keys depth s.now p out.old out.new result }
 {
-    let at = p.at;
-    let t = &s[at..];
-    let e = find_byte(t, b'\n');
-    if t.len() <= e {
-        return Item::Over;
+    let t = &s[p.at..];
+    let end = find_byte(t, b'\n');
+    if t.len() <= end {
+        return Ok(Item::Stop(Close::Over));
     }
-    let l = &t[..e];
+    let l = &t[..end];
     let w = first_word(l);
-    match said_by(w.code) {
-        LineWord::Else => Item::Else(w.end, e),
-        LineWord::End => Item::End(w.end, e),
-        LineWord::If => read_nested(s, keys, depth, p, w.end, e, false, out),
-        LineWord::While => read_nested(s, keys, depth, p, w.end, e, true, out),
-        LineWord::Other => read_own(l, keys, p, w, out),
-    }
+    let line = Line { word: w.end, end };
+    let q = match said_by(w.code) {
+        LineWord::Else => return Ok(Item::Stop(Close::Else(line))),
+        LineWord::End => return Ok(Item::Stop(Close::End(line))),
+        LineWord::If => read_nested(s, keys, depth, p, line, false, out)?,
+        LineWord::While => read_nested(s, keys, depth, p, line, true, out)?,
+        LineWord::Other => read_own(l, keys, p, w, out)?,
+    };
+    Ok(Item::Got(q))
 }
 
 // An `if` or a `while` at a place, with its blocks. The test is kept once it is known where the first block ends.
@@ -217,53 +213,47 @@ fn read_nested(
     keys: u64,
     depth: usize,
     from: Mark,
-    word: usize,
-    end: usize,
+    line: Line,
     looping: bool,
     out: &mut [u64],
-) -> Item
-    requires { Sane s.now keys depth from out.old × LineAt s.now from word end (opener_word looping) }
+) -> Result<Mark, TextFault>
+    requires { Sane s.now keys depth from out.old × LineAt s.now from line (opener_word looping) }
     ensures { NestedRead keys depth s.now from out.old out.new result }
 {
     if DEEPEST <= depth {
-        return Item::Refused(52, from.line);
+        return Err(from.fault(Refusal::TooDeep));
     }
-    let at = from.at;
-    let t = &s[at..];
-    match variable_of(&t[..end], word) {
-        Natural::Refused(r) => Item::Refused(r, from.line),
-        Natural::Got(v) => {
-            let body = read_block(s, keys, depth + 1, next_line(from, end, 1), out);
-            let stop = body.stop;
-            let p = body.place;
-            match stop {
-                Close::Refused(number, line) => Item::Refused(number, line),
-                Close::Over => Item::Refused(51, p.line),
-                Close::Else(f, e) => {
-                    if looping {
-                        return Item::Refused(51, p.line);
-                    }
-                    read_other(s, keys, depth, from.count, v, p, f, e, out)
-                }
-                Close::End(f, e) => {
-                    if f < e {
-                        return Item::Refused(6, p.line);
-                    }
-                    if looping {
-                        keep(out, from.count, test_to(p.count + 1, v));
-                        keep(out, p.count, jump_to(from.count));
-                        return Item::Got(next_line(p, e, 1));
-                    }
-                    keep(out, from.count, test_to(p.count, v));
-                    Item::Got(next_line(p, e, 0))
-                }
+    let t = &s[from.at..];
+    let v = variable_of(&t[..line.end], line.word).map_err(|refusal| from.fault(refusal))?;
+    let body = read_block(s, keys, depth + 1, from.next_line(line.end, 1), out)?;
+    let p = body.place;
+    match body.stop {
+        Close::Over => Err(p.fault(Refusal::UnpairedBlock)),
+        Close::Else(l) => {
+            if looping {
+                return Err(p.fault(Refusal::UnpairedBlock));
             }
+            read_other(s, keys, depth, from.count, v, p, l, out)
+        }
+        Close::End(l) => {
+            if l.word < l.end {
+                return Err(p.fault(Refusal::BadCommand));
+            }
+            if looping {
+                keep(out, from.count, test_to(p.count + 1, v));
+                keep(out, p.count, jump_to(from.count));
+                return Ok(p.next_line(l.end, 1));
+            }
+            keep(out, from.count, test_to(p.count, v));
+            Ok(p.next_line(l.end, 0))
         }
     }
 }
 
-// An `else` at a place, whose word ends at f and whose line at e, and the block behind it. The test of its `if` is at the place test.
+// An `else` at a place, and the block behind it. The test of its `if` is at the place test. Inlined, for the stack: a
+// frame of its own would come with each block in a second body.
 #[cycle(blocks)]
+#[inline(always)]
 fn read_other(
     s: &[u8],
     keys: u64,
@@ -271,62 +261,58 @@ fn read_other(
     test: usize,
     v: u64,
     p: Mark,
-    f: usize,
-    e: usize,
+    line: Line,
     out: &mut [u64],
-) -> Item
-    requires { Sane s.now keys depth p out.old × LineAt s.now p f e else_word × OtherAsked depth test v p }
+) -> Result<Mark, TextFault>
+    requires { Sane s.now keys depth p out.old × LineAt s.now p line else_word × OtherAsked depth test v p }
     ensures { OtherRead keys depth s.now test v p out.old out.new result }
 {
-    if f < e {
-        return Item::Refused(6, p.line);
+    if line.word < line.end {
+        return Err(p.fault(Refusal::BadCommand));
     }
-    let body = read_block(s, keys, depth + 1, next_line(p, e, 1), out);
-    let stop = body.stop;
+    let body = read_block(s, keys, depth + 1, p.next_line(line.end, 1), out)?;
     let q = body.place;
-    match stop {
-        Close::Refused(number, line) => Item::Refused(number, line),
-        Close::Over => Item::Refused(51, q.line),
-        Close::Else(_, _) => Item::Refused(51, q.line),
-        Close::End(g, d) => {
-            if g < d {
-                return Item::Refused(6, q.line);
+    match body.stop {
+        Close::Over => Err(q.fault(Refusal::UnpairedBlock)),
+        Close::Else(_) => Err(q.fault(Refusal::UnpairedBlock)),
+        Close::End(l) => {
+            if l.word < l.end {
+                return Err(q.fault(Refusal::BadCommand));
             }
             keep(out, test, test_to(p.count + 1, v));
             keep(out, p.count, jump_to(q.count));
-            Item::Got(next_line(q, d, 0))
+            Ok(q.next_line(l.end, 0))
         }
     }
 }
 
-// The text of a program for so many keys: any bytes, of any length, and any number of keys.
-pub fn read_blocks(s: &[u8], keys: u64, out: &mut [u64]) -> Translated
+// The text of a program for so many keys: any bytes, of any length, and any number of keys. It answers the count of
+// commands.
+pub fn read_blocks(s: &[u8], keys: u64, out: &mut [u64]) -> Result<usize, TextFault>
     requires { length out.old < 65536 }
     ensures { ProgramRead keys s.now out.old out.new result }
 {
-    let form = Form::one();
-    if keys < 1 {
-        return Translated::Refused(4, 0);
+    if keys < FEWEST_KEYS || Form::one().keys < keys {
+        return Err(TextFault {
+            refusal: Refusal::BadNumber,
+            line: 0,
+        });
     }
-    if form.keys < keys {
-        return Translated::Refused(4, 0);
+    let line = spoilt_line(s);
+    if line != 0 {
+        return Err(TextFault {
+            refusal: Refusal::Spoilt,
+            line,
+        });
     }
-    let n = spoilt_line(s);
-    if n != 0 {
-        return Translated::Refused(2, n);
-    }
-    let from = Mark {
+    let top = Mark {
         at: 0,
         line: 1,
         count: 0,
     };
-    let body = read_block(s, keys, 0, from, out);
-    let stop = body.stop;
-    let p = body.place;
-    match stop {
-        Close::Over => Translated::Got(p.count),
-        Close::Else(_, _) => Translated::Refused(51, p.line),
-        Close::End(_, _) => Translated::Refused(51, p.line),
-        Close::Refused(number, line) => Translated::Refused(number, line),
+    let body = read_block(s, keys, 0, top, out)?;
+    match body.stop {
+        Close::Over => Ok(body.place.count),
+        Close::Else(_) | Close::End(_) => Err(body.place.fault(Refusal::UnpairedBlock)),
     }
 }

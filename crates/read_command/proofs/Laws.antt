@@ -13,14 +13,10 @@ use Rattle.model.specs.declared.{Op.Op, Command.Command, Operand.Operand}
 use Rattle.model.specs.declared.Operand.TheVariants.{InV, InW, InK, InT, InN}
 use Rattle.model.proofs.Accepted.{up-to-bound}
 use Rattle.model_text.proofs.{TextLaws.rest, LineLaws.split-end, LineLaws.split_at, LineLaws.split-some}
-use Rattle.read_command.specs.{Code.said_by, Code.lookup, Command.shape_as, Command.single, Command.halves, Command.cut_at, Command.one_of, Command.two_of}
+use Rattle.read_command.specs.{Code.said_by, Code.lookup, Command.shape_as, Command.single, Command.halves, Command.one_of, Command.two_of}
 use Rattle.read_command.specs.{Command.mapped, Command.command_of, Command.with_number, Command.parts_after, Command.by_word}
 use Rattle.read_command.specs.declared.Shape.{Shape}
-use Rattle.read_command.specs.declared.Shape.TheVariants.{K, T, VN, VW, VK, KV, VT}
-
--- what an answer r stands for, z, where the answer is found to be a
-pub answered : {A B : Type 0} (f : A → B) {r a : A} {z : B} → f r ≡ z → r ≡ a → z ≡ f a
-answered f e g = sym e ∙ ap f g
+use Rattle.read_command.specs.declared.Shape.TheVariants.{Alone, K, T, VN, VW, VK, KV, VT}
 
 -- what follows a space at f, as the code takes it: `&t[f + 1..]`
 abbrev pub behind : List ℕ → ℕ → List ℕ
@@ -50,38 +46,30 @@ module _ {A : Type 0} (F : List ℕ → Parsed A) (t : List ℕ) (f : ℕ) (q : 
   unfolding one_of single
   one-is h = rw (split-end space t f q h)
 
--- the one space between two parts
+-- two parts: the text is cut at its one space, f
 module _ (t : List ℕ) (f : ℕ) (q : f ≡ find space t) where
-  pub cut-few : length t ≤ f → cut_at t f ≡ halves (split space t)
-  unfolding cut_at halves
-  cut-few h = rw (le-ltb _ _ h, split-end space t f q h)
+  pub halves-few : length t ≤ f → halves (split space t) ≡ refused 6
+  unfolding halves
+  halves-few h = rw (split-end space t f q h)
 
   module _ (h : f < length t) (g : ℕ) (p : g ≡ find space (behind t f)) where
-    pub cut-many : g < length (behind t f) → cut_at t (length t) ≡ halves (split space t)
-    unfolding cut_at halves
-    cut-many z =
-        let s = split-some space (behind (behind t f) g) in
-        rw (le-ltb (length t) (length t) (omega arith), split-behind t f q h, split-behind (behind t f) g p z, s.2)
+    pub halves-many : g < length (behind t f) → halves (split space t) ≡ refused 6
+    unfolding halves
+    halves-many z = let s = split-some space (behind (behind t f) g) in rw (split-behind t f q h, split-behind (behind t f) g p z, s.2)
 
-    pub cut-is : length (behind t f) ≤ g → cut_at t f ≡ halves (split space t)
-    unfolding cut_at halves
-    cut-is z = rw (lt-ltb _ _ h, split-behind t f q h, split-end space (behind t f) g p z, rest t (f + 1))
-
--- the text t is cut at its one space, f, and what stands before it is read by F as a
-pub record FirstRead {A : Type 0} (F : List ℕ → Parsed A) (t : List ℕ) (f : ℕ) (a : Parsed A) : Type 0 where
-  pub cut : cut_at t f ≡ halves (split space t)
-  pub inside : f < length t
-  pub is : F (take f t) ≡ a
+    pub halves-is : length (behind t f) ≤ g → halves (split space t) ≡ got (take f t, behind t f)
+    unfolding halves
+    halves-is z = rw (split-behind t f q h, split-end space (behind t f) g p z)
 
 -- two parts, by what reads them from left to right
-module _ {A B : Type 0} (F : List ℕ → Parsed A) (G : List ℕ → Parsed B) (t : List ℕ) (f : ℕ) where
-  pub two-not : cut_at t f ≡ halves (split space t) → length t ≤ f → two_of F G (split space t) ≡ refused 6
-  unfolding two_of cut_at
-  two-not q h = rw (← q, le-ltb _ _ h)
+module _ {A B : Type 0} (F : List ℕ → Parsed A) (G : List ℕ → Parsed B) (ps : List (List ℕ)) where
+  pub two-not : {n : ℕ} → refused n ≡ halves ps → refused n ≡ two_of F G ps
+  unfolding two_of
+  two-not h = rw (← h)
 
-  pub two-read : {a : Parsed A} {b : Parsed B} → FirstRead F t f a → G (behind t f) ≡ b → two_of F G (split space t) ≡ (a >>= (λ x. b >>= (λ y. got (x, y))))
-  unfolding two_of cut_at
-  two-read r e = rw (← r.cut, lt-ltb _ _ r.inside, r.is, ← (rest t (f + 1)), e)
+  pub two-read : {p q : List ℕ} {a : Parsed A} {b : Parsed B} → got (p, q) ≡ halves ps → a ≡ F p → b ≡ G q → (a >>= (λ x. b >>= (λ y. got (x, y)))) ≡ two_of F G ps
+  unfolding two_of
+  two-read h i j = rw (← h, i, j)
 
 -- what is got by way of two readings is got from the first, and then from the second
 got-through : {A B : Type 0} (r : Parsed A) (f : A → Parsed B) (y : B) → (r >>= f) ≡ got y → (x : A) × (r ≡ got x) × (f x ≡ got y)
@@ -156,20 +144,22 @@ module _ (l : Limits) (o : Op) where
   pub alone-not : (t : List ℕ) → by_row l o [] (split space t) ≡ refused 6
   alone-not t = let s = split-some space t in rw s.2 (wrong [] (s.0 ∷ s.1) (λ e. omega arith))
 
-  pub parts-not : (s : Shape) → by_row l o (shape_as s) [] ≡ refused 6
-  parts-not s = wrong (shape_as s) [] (λ e. some s e)
+  pub parts-not : (s : Shape) → (s ≡ Alone → ⊥) → by_row l o (shape_as s) [] ≡ refused 6
+  parts-not s n = wrong (shape_as s) [] (λ e. some s n e)
     where
-      some : (s : Shape) → length (shape_as s) ≡ 0 → ⊥
-      some K e = omega arith
-      some T e = omega arith
-      some VN e = omega arith
-      some VW e = omega arith
-      some VK e = omega arith
-      some KV e = omega arith
-      some VT e = omega arith
+      some : (s : Shape) → (s ≡ Alone → ⊥) → length (shape_as s) ≡ 0 → ⊥
+      some Alone n e = n refl
+      some K n e = omega arith
+      some T n e = omega arith
+      some VN n e = omega arith
+      some VW n e = omega arith
+      some VK n e = omega arith
+      some KV n e = omega arith
+      some VT n e = omega arith
 
   -- each shape of a row: its numbers by their limits, and the command that is made of them
   abbrev by_shape : Shape → List (List ℕ) → Parsed Command
+  by_shape Alone ps = by_row l o [] ps
   by_shape K ps = mapped (λ k. command_of o 0 0 k 0 (pos 0)) (one_of (up_to (l.keys - 1)) ps)
   by_shape T ps = mapped (λ t. command_of o 0 0 0 t (pos 0)) (one_of (up_to l.target) ps)
   by_shape VN ps = mapped (with_number o) (two_of (up_to (variables - 1)) number ps)
@@ -180,6 +170,7 @@ module _ (l : Limits) (o : Op) where
 
   by_shape-is : (s : Shape) (ps : List (List ℕ)) → by_row l o (shape_as s) ps ≡ by_shape s ps
   unfolding operand mapped
+  by_shape-is Alone ps = refl
   by_shape-is K ps = by_one _ InK _ (λ p. refl) ps
   by_shape-is T ps = by_one _ InT _ (λ p. refl) ps
   by_shape-is VN ps = by_two _ _ InV InN (λ x. command_of o x 0 0 0 (pos 0)) _ (λ p. refl) (λ x q. refl) ps

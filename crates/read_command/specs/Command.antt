@@ -1,14 +1,11 @@
 -- What the readers of a command's line are given and answer.
 use Rattle.std.specs.Prelude.{cond, List, [], ◌∷◌, ℕ, ◌+◌, ◌≤◌}
-use lib.{Dec.ltb, IntN.ℤ, ListN.length, ListN.take, ListN.drop}
+use lib.{Dec.ltb, IntN.ℤ, ListN.length, ListN.drop}
 use Rattle.model.specs.{Parsed.Parsed, Parsed.got, Parsed.refused, Parsed.◌>>=◌, Text.space, Text.split, Command.Limits, Command.by_row}
 use Rattle.model.specs.declared.{Op.Op, Command.Command, Operand.Operand}
 use Rattle.model.specs.declared.Operand.TheVariants.{InV, InW, InK, InT, InN}
-use Rattle.read_command.specs.declared.{Line.Line, Shape.Shape, CommandWord.CommandWord, Two.Two}
-use Rattle.read_command.specs.declared.Line.TheVariants.{Got, Refused}
-use Rattle.read_command.specs.declared.Shape.TheVariants.{K, T, VN, VW, VK, KV, VT}
-use Rattle.read_command.specs.declared.CommandWord.TheVariants.{Alone, Followed, Unknown}
-use Rattle.read_command.specs.declared.Two.TheVariants.{Got as TwoGot, Refused as TwoRefused}
+use Rattle.read_command.specs.declared.Shape.{Shape}
+use Rattle.read_command.specs.declared.Shape.TheVariants.{Alone, K, T, VN, VW, VK, KV, VT}
 
 -- ---- The whole line
 
@@ -18,13 +15,10 @@ pub record Fair (keys target : ℕ) : Type 0 where
   pub few : keys ≤ 256
   pub near : target ≤ 4294967295
 
-abbrev pub line_as : Line → Parsed Command
-line_as (Got c) = got c
-line_as (Refused n) = refused n
-
 -- ---- The word
 
 abbrev pub shape_as : Shape → List Operand
+shape_as Alone = []
 shape_as K = InK ∷ []
 shape_as T = InT ∷ []
 shape_as VN = InV ∷ InN ∷ []
@@ -33,10 +27,8 @@ shape_as VK = InV ∷ InK ∷ []
 shape_as KV = InK ∷ InV ∷ []
 shape_as VT = InV ∷ InT ∷ []
 
-abbrev pub word_as : CommandWord → Parsed (Op × List Operand)
-word_as (Alone o) = got (o, [])
-word_as (Followed o s) = got (o, shape_as s)
-word_as Unknown = refused 6
+abbrev pub word_as : Op × Shape → Op × List Operand
+word_as w = (w.0, shape_as w.1)
 
 -- ---- The parts after the word
 
@@ -60,20 +52,12 @@ halves (p ∷ []) = refused 6
 halves (p ∷ q ∷ []) = got (p, q)
 halves (p ∷ q ∷ r ∷ ps) = refused 6
 
--- the same as a place in the text: that of the one space, or the length
-unfoldable pub cut_at : List ℕ → ℕ → Parsed (List ℕ × List ℕ)
-cut_at t f = cond (ltb f (length t)) (got (take f t, drop (f + 1) t)) (refused 6)
-
 -- one part read, and two parts read from left to right
 unfoldable pub one_of : {A : Type 0} → (List ℕ → Parsed A) → List (List ℕ) → Parsed A
 one_of f ps = single ps >>= f
 
 unfoldable pub two_of : {A B : Type 0} → (List ℕ → Parsed A) → (List ℕ → Parsed B) → List (List ℕ) → Parsed (A × B)
 two_of f g ps = halves ps >>= (λ h. f h.0 >>= (λ x. g h.1 >>= (λ y. got (x, y))))
-
-abbrev pub two_as : Two → Parsed (ℕ × ℕ)
-two_as (TwoGot x y) = got (x, y)
-two_as (TwoRefused n) = refused n
 
 -- ---- The command that is made of them
 

@@ -15,8 +15,7 @@ use Rattle.model_record.specs.Record.{limit_of, in_range, command_fits, command_
 use Rattle.model_record.specs.declared.CommandRecord.{CommandRecord}
 use Rattle.model_record.proofs.Commands.{command-fitting}
 use Rattle.model_text.proofs.TextLaws.{and_both}
-use Rattle.read_fields.specs.Fields.{LimitsAt, Narrow}
-use Rattle.read_fields.specs.declared.Limits.{Limits}
+use Rattle.read_fields.specs.Fields.{Narrow}
 use Rattle.read_fields.proofs.Laws.{in-range}
 
 -- ---- A test of every row and its place, which antt computes
@@ -81,7 +80,7 @@ has-at n o = go (dec_lt n 15)
     go (no l) = beyond n o (omega arith) ∙ rw (get_or-eq_default table (record { word = []; op = Stop; parts = [] }) {n = n} (omega arith))
 
 -- and so are the limits
-pub limit-at : (n : ℕ) (o : Operand) (most : ℕ) {r : ℕ} → r ≡ cond (has_at n o) most 0 → r ≡ limit_of (row_at n).parts o most
+limit-at : (n : ℕ) (o : Operand) (most : ℕ) {r : ℕ} → r ≡ cond (has_at n o) most 0 → r ≡ limit_of (row_at n).parts o most
 limit-at n o most h = h ∙ ap (λ (b : Bool). cond b most 0) (has-at n o)
 
 -- ---- A command's test
@@ -97,11 +96,13 @@ number-test : (a : Bool) (z : ℤ) → SFits w32 z → a || eqb (of_z w32 z) 0 �
 number-test true z h = sym (in-range h)
 number-test false z h = is-zero z h
 
--- the tests one after the other
-pub command-test : (K count : ℕ) (c : CommandRecord) (l : Limits) → SFits w32 c.n → LimitsAt c.word (K - 1) count l
-    → ltb c.word 15 && leb c.v l.v && leb c.w l.w && leb c.k l.k && leb c.t l.t && (l.n || eqb (of_z w32 c.n) 0) ≡ command_fits K count c
+-- the tests one after the other, by the limits of the word's operands
+pub command-test : (K count : ℕ) (c : CommandRecord) → SFits w32 c.n → {v w k t : ℕ}
+    → v ≡ cond (has_at c.word InV) 7 0 → w ≡ cond (has_at c.word InW) 7 0 → k ≡ cond (has_at c.word InK) (K - 1) 0 → t ≡ cond (has_at c.word InT) count 0
+    → ltb c.word 15 && leb c.v v && leb c.w w && leb c.k k && leb c.t t && (has_at c.word InN || eqb (of_z w32 c.n) 0) ≡ command_fits K count c
 unfolding command_fits table
-command-test K count c l h m = rw (m.v, m.w, m.k, m.t, m.n, number-test (has (row_at c.word).parts InN) c.n h) (simp and_assoc)
+command-test K count c h v w k t =
+    rw (limit-at c.word InV 7 v, limit-at c.word InW 7 w, limit-at c.word InK (K - 1) k, limit-at c.word InT count t, has-at c.word InN, number-test (has (row_at c.word).parts InN) c.n h) (simp and_assoc)
 
 -- a command that passes has room in a stored one
 pub narrow : (K count : ℕ) (c : CommandRecord) → 1 ≤ K → K ≤ key_capacity → command_fits K count c ≡ true → Narrow c

@@ -11,10 +11,11 @@ use Rattle.model.specs.Phase as Model
 use Rattle.model.proofs.{Parsed.never, Stored.map_more}
 use Rattle.model_text.specs.Found.{starts, Word}
 use Rattle.model_text.proofs.LineLaws.{more-full, more-bad, more-ok, lines_none, lines_more, line-none, line_first, starts-take, after-named, after-other}
-use Rattle.read_line.specs.Phase.{beside, headed, found_as, FeedInside, FirstLine, Reads}
-use Rattle.read_line.specs.declared.Found.{Found}
-use Rattle.read_line.specs.declared.Found.TheVariants.{At, Other}
-use Rattle.read_line.specs.declared.Phase.TheVariants.{Got, Refused}
+use Rattle.read_line.specs.Phase.{faulted, beside, headed, found_as, FeedInside, FirstLine, Reads}
+use Rattle.std.specs.Prelude.{Option, None, Some, Result, Ok, Err}
+use Rattle.model.specs.Refusal.{number_of}
+use Rattle.model.specs.declared.{Fault.Fault, Refusal.Refusal}
+use Rattle.model.specs.declared.Refusal.TheVariants.{Misplaced}
 
 -- ---- The first line of the text t: where it starts with the name, u is what follows, and e the place of its first line feed
 
@@ -35,7 +36,7 @@ module _ {w p : List ℕ} (W : Word w p) (t : List ℕ) where
     unfolding headed
     headed-short l = rw (line-none w t W.no_sign W.no-feed (rw W.sign at h) u (d ∙ ap (λ m. drop m t) long) e q l)
 
-    pub headed-at : e < length u → headed w (lines t) ≡ found_as t (At (length p) (length p + e))
+    pub headed-at : e < length u → headed w (lines t) ≡ found_as t (Some (length p, length p + e))
     unfolding headed
     headed-at l =
         let m : length p + e + 1 ≡ length p + (e + 1) = omega arith in
@@ -43,6 +44,16 @@ module _ {w p : List ℕ} (W : Word w p) (t : List ℕ) where
         let y : drop (e + 1) u ≡ drop (length p + (e + 1)) t = ap (drop (e + 1)) d ∙ drop-drop (e + 1) (length p) t in
         let f = line_first w t W.no_sign W.no-feed (rw W.sign at h) u (d ∙ ap (λ m. drop m t) long) e q l in
         rw (n, m, ← d, ← y, f, after-named w (take e u) W.no_sign)
+
+-- ---- A refusal on its line
+
+pub read-faulted : {X : Type 0} (l : ℕ) (r : Result X Refusal) (x : X) → Ok x ≡ faulted l r → r ≡ Ok x
+read-faulted l (Ok y) x h = let q : y ≡ x = cc in ap Ok q
+read-faulted l (Err y) x h = cc
+
+pub refused-faulted : {X : Type 0} (l : ℕ) (r : Result X Refusal) (e : Fault) → Err e ≡ faulted l r → (y : Refusal) × (r ≡ Err y) × (e ≡ record { refusal = y; line = l })
+refused-faulted l (Ok x) e h = cc
+refused-faulted l (Err y) e h = (y, refl, cc)
 
 -- ---- A phase by the first of its lines
 
@@ -87,26 +98,26 @@ module _ {A : Type 0} (w : List ℕ) (n : ℕ) where
       go (refused r) e = never e
 
 -- where a line of the name ends
-pub feed-inside : {p t : List ℕ} {r : Found} {v e : ℕ} → FirstLine p t r → r ≡ At v e → (v ≤ e) × (e < length t)
+pub feed-inside : {p t : List ℕ} {r : Option (ℕ × ℕ)} {x : ℕ × ℕ} → FirstLine p t r → r ≡ Some x → (x.0 ≤ x.1) × (x.1 < length t)
 feed-inside {p} {t} l q = subst (FeedInside t) q l.feed
 
 -- ---- A phase of one line, by the first line of s
 
-module _ {w p s : List ℕ} {r : Found} (W : Word w p) (l : FirstLine p s r) where
-  other : r ≡ Other → headed w (lines s) ≡ refused 3
+module _ {w p s : List ℕ} {r : Option (ℕ × ℕ)} (W : Word w p) (l : FirstLine p s r) where
+  other : r ≡ None → headed w (lines s) ≡ refused 3
   other q = sym (l.line w W) ∙ ap (found_as s) q
 
-  named : {v e : ℕ} → r ≡ At v e → headed w (lines s) ≡ got (take (e - v) (drop v s), lines (drop (e + 1) s))
+  named : {x : ℕ × ℕ} → r ≡ Some x → headed w (lines s) ≡ got (take (x.1 - x.0) (drop x.0 s), lines (drop (x.1 + 1) s))
   named q = sym (l.line w W) ∙ ap (found_as s) q
 
-  module _ {A : Type 0} (f : List ℕ → Parsed A) {first : ℕ} where
-    pub one-other : {a : A} → r ≡ Other → Reads (one w f) s first (Refused 3 first) a
+  module _ {X A : Type 0} (f : List ℕ → Parsed A) (g : X → A) {first : ℕ} where
+    pub one-other : r ≡ None → Reads (one w f) g s first (Err (record { refusal = Misplaced; line = first }))
     one-other q = record { read = sym (one_none w first f (lines s) (other q)); ahead = tt }
 
-    pub one-bad : {a : A} {v e n : ℕ} → r ≡ At v e → f (take (e - v) (drop v s)) ≡ refused n → Reads (one w f) s first (Refused n first) a
+    pub one-bad : {x : ℕ × ℕ} {y : Refusal} → r ≡ Some x → f (take (x.1 - x.0) (drop x.0 s)) ≡ refused (number_of y) → Reads (one w f) g s first (Err (record { refusal = y; line = first }))
     one-bad q b = record { read = sym (one_line w first f (lines s) _ _ (named q) ∙ rw b); ahead = tt }
 
-    pub one_ok : {a : A} {v e : ℕ} → r ≡ At v e → f (take (e - v) (drop v s)) ≡ got a → Reads (one w f) s first (Got (first + 1) (e + 1)) a
+    pub one_ok : {x : ℕ × ℕ} {a : X} → r ≡ Some x → f (take (x.1 - x.0) (drop x.0 s)) ≡ got (g a) → Reads (one w f) g s first (Ok (a, record { line = first + 1; at = x.1 + 1 }))
     one_ok q b = let h = feed-inside l q in record { read = sym (one_line w first f (lines s) _ _ (named q) ∙ rw b); ahead = (omega arith, omega arith) }
 
 -- ---- A phase of many lines, by a loop over s: the lines before a gave x, and those from a on, of which the first has the number line, are left
@@ -120,25 +131,25 @@ module _ {A : Type 0} {w : List ℕ} {F : A → List ℕ → Parsed A} {start : 
   pub going_on : (x : A) → x ≡ start → Going w F start s first first 0 x
   going_on x q = record { place = omega arith; number = omega arith; same = rw q }
 
-  module _ {p t : List ℕ} {r : Found} (W : Word w p) (l : FirstLine p t r) {line a : ℕ} {x : A} (g : Going w F start s first line a x) (d : t ≡ drop a s) where
-    pub going-left : r ≡ Other → Reads (λ n ls. many w F n start ls) s first (Got line a) x
-    going-left q = record { read = sym (sym g.same ∙ many-none w line F x (lines (drop a s)) (rw (← d) (other W l q))); ahead = (g.place, g.number) }
+  module _ {p t : List ℕ} {r : Option (ℕ × ℕ)} (W : Word w p) (l : FirstLine p t r) {line a : ℕ} {x : A} (g : Going w F start s first line a x) (d : t ≡ drop a s) where
+    pub going-left : {X : Type 0} (f : X → A) (y : X) → f y ≡ x → r ≡ None → Reads (λ n ls. many w F n start ls) f s first (Ok (y, record { line = line; at = a }))
+    going-left f y h q = record { read = rw h (sym (sym g.same ∙ many-none w line F x (lines (drop a s)) (rw (← d) (other W l q)))); ahead = (g.place, g.number) }
 
-    module _ {v e : ℕ} (q : r ≡ At v e) where
-      within : headed w (lines (drop a s)) ≡ got (take (e - v) (drop v t), lines (drop (a + e + 1) s))
-      within = let m : a + e + 1 ≡ a + (e + 1) = omega arith in rw (m, ← (drop-drop (e + 1) a s), ← d) (named W l q)
+    module _ {v : ℕ × ℕ} (q : r ≡ Some v) where
+      within : headed w (lines (drop a s)) ≡ got (take (v.1 - v.0) (drop v.0 t), lines (drop (a + v.1 + 1) s))
+      within = let m : a + v.1 + 1 ≡ a + (v.1 + 1) = omega arith in rw (m, ← (drop-drop (v.1 + 1) a s), ← d) (named W l q)
 
-      pub going-bad : {y : A} {n : ℕ} → F x (take (e - v) (drop v t)) ≡ refused n → Reads (λ n ls. many w F n start ls) s first (Refused n line) y
-      going-bad b = record { read = sym (sym g.same ∙ many-line w line F x (lines (drop a s)) _ _ within ∙ rw b); ahead = tt }
+      pub going-bad : {X : Type 0} (f : X → A) {y : Refusal} → F x (take (v.1 - v.0) (drop v.0 t)) ≡ refused (number_of y) → Reads (λ n ls. many w F n start ls) f s first (Err (record { refusal = y; line = line }))
+      going-bad f b = record { read = sym (sym g.same ∙ many-line w line F x (lines (drop a s)) _ _ within ∙ rw b); ahead = tt }
 
       -- the next line starts within s
-      pub going-bound : a + e + 1 ≤ length s
+      pub going-bound : a + v.1 + 1 ≤ length s
       going-bound =
           let h = feed-inside l q in
           let n : length t ≡ length s - a = rw d (length-drop a s) in
           omega (arith, g.place)
 
-      pub going_more : (y : A) → F x (take (e - v) (drop v t)) ≡ got y → Going w F start s first (line + 1) (a + e + 1) y
+      pub going_more : (y : A) → F x (take (v.1 - v.0) (drop v.0 t)) ≡ got y → Going w F start s first (line + 1) (a + v.1 + 1) y
       going_more y b = record { place = going-bound; number = omega (arith, g.number); same = sym (many-line w line F x (lines (drop a s)) _ _ within ∙ rw b) ∙ g.same }
 
 -- ---- A line more into an array: f shows what an element stands for, and the first n of xs count

@@ -1,12 +1,13 @@
 // The line that refusal 2 names, the first line of a text by its name, and what the readers of lines answer.
 #![tactic(auto)]
 
-ghost use Rattle.std.specs.Prelude.{◌≡◌, ◌&&◌, not, min};
+ghost use Rattle.std.specs.Prelude.{◌≡◌, ◌&&◌, not};
 ghost use lib.{Dec.leb, ListN.length};
 ghost use Rattle.model.specs.{Text.between as Text·between, Text.class_of, Sheet.closed};
 ghost use Rattle.model_text.specs.Found.{forbids, spoilt_line};
-ghost use Rattle.read_line.specs.Phase.{FirstLine};
+ghost use Rattle.read_line.specs.Phase.{FirstLine, faulted};
 
+use model::{Fault, Refusal};
 use read_text::{find_byte, starts_with};
 
 // The class that a scan asks for.
@@ -15,34 +16,27 @@ const FORBIDDEN_CLASS: u8 = 10;
 // The bytes that a scan tests at once.
 const AT_ONCE: usize = 16;
 
-// Where a first line of the name has what follows its equals sign: from a place to that of its line feed. Or the first line is another, or there is none.
+// Where the next line starts: its number, and its place in the text.
 #[derive(Clone, Copy)]
-pub enum Found {
-    At(usize, usize),
-    Other,
+pub struct Mark {
+    pub line: u32,
+    pub at: usize,
 }
 
-// Whether a line was read, or the number of its refusal. What was read stands beside it.
-#[derive(Clone, Copy)]
-pub enum Checked {
-    Got,
-    Refused(u32),
-}
-
-// How far a phase came: the number of the line after it, and where in its text that line starts. Or the number of its refusal, and its line.
-#[derive(Clone, Copy)]
-pub enum Phase {
-    Got(u32, usize),
-    Refused(u32, u32),
+// What was read, or its refusal as the fault of a line.
+pub fn on_line<T>(read: Result<T, Refusal>, line: u32) -> Result<T, Fault>
+    ensures { result ≡ faulted line read }
+{
+    match read {
+        Ok(value) => Ok(value),
+        Err(refusal) => Err(Fault { refusal, line }),
+    }
 }
 
 fn between(lo: u8, hi: u8, b: u8) -> bool
     ensures { result ≡ Text·between lo hi b }
 {
-    if b < lo {
-        return false;
-    }
-    b <= hi
+    lo <= b && b <= hi
 }
 
 // The class of a byte, numbered from 0 in document 01's order, by tests on ranges. The bytes outside of the largest range come first: of a caller that asks for the forbidden ones alone, a
@@ -87,11 +81,7 @@ pub fn class_of(b: u8) -> u8
 fn is_closed(s: &[u8]) -> bool
     ensures { result ≡ closed s.now }
 {
-    let n = s.len();
-    if n == 0 {
-        return false;
-    }
-    s[n - 1] == b'\n'
+    !s.is_empty() && s[s.len() - 1] == b'\n'
 }
 
 // Whether one of these bytes is forbidden. What a byte is does not decide which comes next, so that a compiler tests many of them in one step.
@@ -99,20 +89,12 @@ fn has_forbidden(s: &[u8]) -> bool
     ensures { result ≡ forbids s.now }
 {
     let mut found = false;
-    let mut i = 0;
-    while i < s.len() {
-        if class_of(s[i]) == FORBIDDEN_CLASS {
+    for &b in s {
+        if class_of(b) == FORBIDDEN_CLASS {
             found = true;
         }
-        i += 1;
     }
     found
-}
-
-fn lesser(a: usize, b: usize) -> usize
-    ensures { result ≡ min a b }
-{
-    if b < a { b } else { a }
 }
 
 // Whether there are bytes enough to test so many at once, and none is forbidden. The last ones are tested together too, even if some of them were before.
@@ -125,7 +107,7 @@ fn all_allowed(s: &[u8]) -> bool
     }
     let mut i = 0;
     while i < n {
-        let a = lesser(i, n - AT_ONCE);
+        let a = i.min(n - AT_ONCE);
         if has_forbidden(&s[a..a + AT_ONCE]) {
             return false;
         }
@@ -139,15 +121,12 @@ fn fault_line(s: &[u8]) -> usize
     ensures { result ≡ spoilt_line s.now }
 {
     let mut line: usize = 1;
-    let mut i = 0;
-    while i < s.len() {
-        let b = s[i];
+    for (i, &b) in s.iter().enumerate() {
         if class_of(b) == FORBIDDEN_CLASS {
             return line;
         }
-        i += 1;
         if b == b'\n' {
-            if s.len() <= i {
+            if s.len() <= i + 1 {
                 return 0;
             }
             line += 1;
@@ -169,20 +148,22 @@ pub fn spoilt_line(s: &[u8]) -> usize
     fault_line(s)
 }
 
-// The name is given with its equals sign. It is looked for before the line feed, so that a line of another name is not read to its end.
+// What follows an equals sign on the first line, from a place to that of its line feed, where the line has this name;
+// none where it is another line, or there is none. The name is given with its equals sign. It is looked for before the
+// line feed, so that a line of another name is not read to its end.
 // Called and not inlined, for the read-only memory: it stands at many places.
 #[inline(never)]
-pub fn first_line(t: &[u8], name: &[u8]) -> Found
+pub fn first_line(t: &[u8], name: &[u8]) -> Option<(usize, usize)>
     ensures { FirstLine name.now t.now result }
 {
     if !starts_with(t, name) {
-        return Found::Other;
+        return None;
     }
     let k = name.len();
     let u = &t[k..];
     let e = find_byte(u, b'\n');
     if u.len() <= e {
-        return Found::Other;
+        return None;
     }
-    Found::At(k, k + e)
+    Some((k, k + e))
 }

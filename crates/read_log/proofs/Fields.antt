@@ -1,15 +1,17 @@
 -- Keys and fields one by one.
 use Prim.Native.Nat.{ℕ, zero, suc, ◌+◌, ◌<◌, ◌≤◌}
-use mathlib.Core.Path.{◌≡◌, refl, sym, ap, ◌∙◌}
+use mathlib.Core.Path.{◌≡◌, refl, sym, ap, subst}
 use mathlib.Core.List.{List, [], ◌∷◌, ◌++◌, append-nil}
 use native.Mathlib.{Omega.arith, Numerals.add-one}
-use lib.{IntN.ℤ, ListN.length, ListN.get_or, ListN.take, ListN.drop, ListN.set, Seq.drop-cons, Seq.append_snoc, Seq.take-suc-set}
+use lib.{IntN.ℤ, ListN.length, ListN.take, ListN.drop, ListN.set, Seq.append_snoc, Seq.take-suc-set}
 use borrow.Author.Tests.{le-leb, lt-leb}
-use Rattle.model.specs.{Parsed.Parsed, Parsed.got, Parsed.refused, Parsed.◌>>=◌, Number.up_to, Number.number, Stored.entry_in, Stored.first_of}
+use Rattle.model.specs.{Parsed.Parsed, Parsed.got, Parsed.refused, Parsed.◌>>=◌, Number.up_to, Number.number, Accepted.Every, Stored.entry_in, Stored.first_of}
 use Rattle.model.specs.declared.{Entry.Entry, EntrySlot.EntrySlot}
 use Rattle.model.specs.declared.Entry.TheVariants.{Absent, Number}
 use Rattle.model.proofs.Stored.{first-set}
+use Rattle.std.specs.List.{zip}
 use Rattle.model_log.specs.Log.{greatest_key, key_count, key_numbers, field, entries}
+use Rattle.read_log.specs.Log.{KeysHeld}
 
 -- ---- The keys of the first row
 
@@ -57,33 +59,49 @@ unfolding field
 field-bad [] r h e = absurd (h refl)
 field-bad (b ∷ f) r h e = rw e
 
-pub entries-end : (ks : List ℕ) (es : List Entry) → entries ks [] es ≡ got es
-unfolding entries
-entries-end [] es = refl
-entries-end (k ∷ ks) es = refl
+-- the fields that a row has at keys, entered one by one
+unfoldable pub entered : List (ℕ × List ℕ) → List Entry → Parsed (List Entry)
+entered [] es = got es
+entered (p ∷ ps) es = field p.1 >>= (λ e. entered ps (set es p.0 e))
 
--- fields at no more keys than are taken
-pub entries-take : (n : ℕ) (ks : List ℕ) (fs : List (List ℕ)) (es : List Entry) → length fs ≤ n → entries (take n ks) fs es ≡ entries ks fs es
-unfolding entries
-entries-take n ks [] es h = entries-end (take n ks) es ∙ sym (entries-end ks es)
-entries-take zero ks (f ∷ fs) es h = absurd (omega arith)
-entries-take (suc n) [] (f ∷ fs) es h = refl
-entries-take (suc n) (k ∷ ks) (f ∷ fs) es h = go (field f) (λ e. entries-take n ks fs (set es k e) (omega arith))
+pub entries-zip : (ks : List ℕ) (fs : List (List ℕ)) (es : List Entry) → entries ks fs es ≡ entered (zip ks fs) es
+unfolding entries entered
+entries-zip [] fs es = refl
+entries-zip (k ∷ ks) [] es = refl
+entries-zip (k ∷ ks) (f ∷ fs) es = go (field f) (λ e. entries-zip ks fs (set es k e))
   where
-    go : (x : Parsed Entry) → ((e : Entry) → entries (take n ks) fs (set es k e) ≡ entries ks fs (set es k e)) → (x >>= (λ e. entries (take n ks) fs (set es k e))) ≡ (x >>= (λ e. entries ks fs (set es k e)))
+    go : (x : Parsed Entry) → ((e : Entry) → entries ks fs (set es k e) ≡ entered (zip ks fs) (set es k e)) → (x >>= (λ e. entries ks fs (set es k e))) ≡ (x >>= (λ e. entered (zip ks fs) (set es k e)))
     go (got e) i = i e
     go (refused r) i = refl
 
--- the field of the key at j, with the array that holds what was entered before it
-module _ (keys : List ℕ) (j : ℕ) (h : j < length keys) (slots : List EntrySlot) (f : List ℕ) (fs : List (List ℕ)) where
-  pub entry-bad : (r : ℕ) → field f ≡ refused r → entries (drop j keys) (f ∷ fs) (first_of entry_in key_count slots) ≡ refused r
-  unfolding entries
-  entry-bad r e = rw (drop-cons keys j 0 h, e)
+pub entered-none : (es : List Entry) → entered [] es ≡ got es
+unfolding entered
+entered-none es = refl
 
-  pub entry_next : (x : EntrySlot) → get_or keys j 0 < key_count → field f ≡ got x.entry
-      → entries (drop j keys) (f ∷ fs) (first_of entry_in key_count slots) ≡ entries (drop (j + 1) keys) fs (first_of entry_in key_count (set slots (get_or keys j 0) x))
-  unfolding entries
-  entry_next x k e = rw (first-set entry_in key_count slots (get_or keys j 0) x k, add-one j, drop-cons keys j 0 h, e)
+-- one field more, with the array that holds what was entered before it
+module _ (k : ℕ) (f : List ℕ) (ps : List (ℕ × List ℕ)) (slots : List EntrySlot) where
+  pub entry-bad : (r : ℕ) → field f ≡ refused r → entered ((k, f) ∷ ps) (first_of entry_in key_count slots) ≡ refused r
+  unfolding entered
+  entry-bad r e = rw e
+
+  pub entry_next : (x : EntrySlot) → k < key_count → field f ≡ got x.entry → entered ((k, f) ∷ ps) (first_of entry_in key_count slots) ≡ entered ps (first_of entry_in key_count (set slots k x))
+  unfolding entered
+  entry_next x h e = rw (first-set entry_in key_count slots k x h, e)
+
+-- the keys of the fields are keys
+module _ {A : Type 0} (P : A → Type 0) where
+  every-drop : (n : ℕ) (xs : List A) → Every P xs → Every P (drop n xs)
+  every-drop zero xs h = h
+  every-drop (suc n) [] h = tt
+  every-drop (suc n) (x ∷ xs) h = every-drop n xs h.1
+
+every-zip : (ks : List ℕ) (fs : List (List ℕ)) → KeysHeld ks → Every (λ (p : ℕ × List ℕ). p.0 < key_count) (zip ks fs)
+every-zip [] fs h = tt
+every-zip (k ∷ ks) [] h = tt
+every-zip (k ∷ ks) (f ∷ fs) h = (h.0, every-zip ks fs h.1)
+
+pub key-held : (ks : List ℕ) (fs : List (List ℕ)) (n k : ℕ) (f : List ℕ) (ps : List (ℕ × List ℕ)) → KeysHeld ks → drop n (zip ks fs) ≡ (k, f) ∷ ps → k < key_count
+key-held ks fs n k f ps h e = let P : ℕ × List ℕ → Type 0 = λ p. p.0 < key_count in (subst (Every P) e (every-drop P n (zip ks fs) (every-zip ks fs h))).0
 
 -- nothing before what is read
 pub behind-none : (x : Parsed (List ℕ)) → behind [] x ≡ x

@@ -1,20 +1,18 @@
 -- The rows behind the first, one by one: t is the text that is left, the first n of xs hold the messages before it, and its first row has the number row.
 use Prim.Native.Nat.{ℕ, ◌+◌, ◌<◌, ◌≤◌}
-use mathlib.Core.Path.{◌≡◌, refl, sym, ap, subst, ◌∙◌}
+use mathlib.Core.Path.{◌≡◌, refl, sym, ap, ◌∙◌}
 use mathlib.Core.List.{List, [], ◌∷◌, map}
+use Rattle.std.specs.Prelude.{Err}
 use native.Mathlib.Omega.{arith}
 use lib.{ListN.length, ListN.take, ListN.drop, ListN.set, ListN.replicate}
 use borrow.Author.Tests.{eq-eqb, ne_eqb}
-use Rattle.model.specs.{Parsed.got, Parsed.refused, Text.comma, Text.split, Limits.most_messages, Stored.entries_in}
+use Rattle.model.specs.{Parsed.got, Parsed.refused, Text.comma, Text.split, Limits.most_messages, Refusal.number_of, Stored.entries_in}
+use Rattle.model.specs.declared.Refusal.{Refusal}
 use Rattle.model.specs.declared.{Entry.Entry, Entry.TheVariants.Absent, MessageLine.MessageLine}
 use Rattle.model_log.specs.Log as Log
 use Rattle.model_log.specs.Log.{Row, rows, fields, key_count, key_numbers, header, entries, message_row, messages, further, read_rows, read_log}
-use Rattle.read_line.specs.Phase.{checked_as}
-use Rattle.read_line.specs.declared.Checked.{Checked}
-use Rattle.read_line.specs.declared.Checked.TheVariants.{Got as Passed, Refused as Failed}
 use Rattle.read_line.proofs.Laws.{array-full, array-bad, array_ok}
-use Rattle.read_log.specs.Log.{scan, Ahead, RowTaken}
-use Rattle.read_log.specs.declared.Taken.{Taken}
+use Rattle.read_log.specs.Log.{scan, RowTaken}
 use Rattle.read_log.proofs.Rows.{rows-some, scan-faulty, scan-first}
 
 -- ---- The message of a row, by the row's fields
@@ -34,24 +32,13 @@ module _ (ks : List ℕ) (r : Row) where
     row_read n = rw (h, eq-eqb _ _ n)
 
 -- what is taken from a text of which this is the first row
-pub taken_refused : {ks t : List ℕ} {r : Taken} {first : Row} {others : List Row} {x : ℕ} → r.checked ≡ Failed x → rows t ≡ first ∷ others → message_row ks first ≡ refused x → RowTaken ks t r
-taken_refused {ks} {t} {r} {first} {others} {x} e s h =
-    record {
-      first = first;
-      others = others;
-      split = s;
-      read = ap (λ (c : Checked). checked_as c (entries_in key_count r.line)) e ∙ sym h;
-      ahead = subst (λ (c : Checked). Ahead c t r.size others) (sym e) tt;
-    }
+pub taken_refused : {ks t : List ℕ} {first : Row} {others : List Row} {x : Refusal} → rows t ≡ first ∷ others → message_row ks first ≡ refused (number_of x) → RowTaken ks t (Err x)
+taken_refused {ks} {t} {first} {others} s h = record { first = first; others = others; split = s; read = sym h; ahead = tt }
 
-pub taken-faulty : {ks t : List ℕ} {r : Taken} {x : ℕ} → 1 ≤ length t → scan 0 1 t ≡ refused x → r.checked ≡ Failed x → RowTaken ks t r
-taken-faulty {ks} {t} {r} {x} some q e =
-    let f = scan-faulty 0 1 x t q some in
-    taken_refused e f.1.rows (row-faulty ks f.1.first 41 f.1.refuses ∙ ap refused (sym f.0))
-
-pub ahead : (c : Checked) (t : List ℕ) (n : ℕ) → 1 ≤ n → n ≤ length t → Ahead c t n (rows (drop n t))
-ahead Passed t n some h = (refl, some, h)
-ahead (Failed r) t n some h = tt
+pub taken-faulty : {ks t : List ℕ} {x : Refusal} → 1 ≤ length t → scan 0 1 t ≡ refused (number_of x) → RowTaken ks t (Err x)
+taken-faulty {ks} {t} {x} some q =
+    let f = scan-faulty 0 1 (number_of x) t q some in
+    taken_refused f.1.rows (row-faulty ks f.1.first 41 f.1.refuses ∙ ap refused (sym f.0))
 
 -- ---- One row
 

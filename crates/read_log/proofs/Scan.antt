@@ -1,14 +1,27 @@
 -- The scan of the first row, at a place i of the text s.
 use Prim.Native.Nat.{ℕ, ◌+◌, ◌<◌, ◌≤◌}
-use mathlib.Core.Path.{◌≡◌}
+use mathlib.Core.Path.{◌≡◌, refl}
+use mathlib.Core.Bool.{Bool, true, false, ◌&&◌}
 use mathlib.Core.List.{List, ◌∷◌}
 use native.Mathlib.{Omega.arith, Decide.dec_lt}
-use lib.ListN.{length, get_or, drop}
-use borrow.Author.Tests.{eq-eqb, ne_eqb}
+use lib.{Dec.eqb, ListN.length, ListN.get_or, ListN.drop}
+use borrow.Author.Tests.{eq-eqb, eqb-true, ne_eqb}
 use Rattle.model.specs.{Parsed.got, Parsed.refused, Text.comma, Text.line_feed}
-use Rattle.model_log.specs.Log.{carriage_return, quote_mark}
+use Rattle.model_log.specs.Log.{carriage_return, quote_mark, spoils}
 use Rattle.model_text.proofs.TextLaws.{uncons, done}
 use Rattle.read_log.specs.Log.{scan}
+
+no-end : (b c : ℕ) → (b ≡ carriage_return → c ≡ line_feed → ⊥) → (eqb b carriage_return && eqb c line_feed) ≡ false
+no-end b c h = go (eqb b carriage_return) refl (eqb c line_feed) refl
+  where
+    go : (x : Bool) → eqb b carriage_return ≡ x → (y : Bool) → eqb c line_feed ≡ y → (x && y) ≡ false
+    go true p true q = absurd (h (eqb-true _ _ p) (eqb-true _ _ q))
+    go true p false q = refl
+    go false p y q = refl
+
+-- a byte of none of the three
+pub harmless : (b : ℕ) → (b ≡ quote_mark → ⊥) → (b ≡ carriage_return → ⊥) → (b ≡ line_feed → ⊥) → spoils b ≡ false
+harmless b q r f = rw (ne_eqb _ _ q, ne_eqb _ _ r, ne_eqb _ _ f)
 
 -- fewer than two bytes are left
 pub scan-short : (i n : ℕ) (s : List ℕ) → length s ≤ i + 1 → scan i n (drop i s) ≡ refused 41
@@ -30,25 +43,17 @@ module _ (i n : ℕ) (s : List ℕ) (h : i + 1 < length s) where
   unfolding scan
   scan-end b c = rw (two, eq-eqb _ _ b, eq-eqb _ _ c)
 
-  pub scan-bare : get_or s i 0 ≡ carriage_return → (get_or s (i + 1) 0 ≡ line_feed → ⊥) → scan i n (drop i s) ≡ refused 41
-  unfolding scan
-  scan-bare b c = rw (two, ne_eqb _ _ c, b)
-
-  -- a byte that is no carriage return
-  module _ (r : get_or s i 0 ≡ carriage_return → ⊥) where
-    pub scan-feed : get_or s i 0 ≡ line_feed → scan i n (drop i s) ≡ refused 41
+  -- where the two bytes do not end the row
+  module _ (r : get_or s i 0 ≡ carriage_return → get_or s (i + 1) 0 ≡ line_feed → ⊥) where
+    pub scan-spoilt : spoils (get_or s i 0) ≡ true → scan i n (drop i s) ≡ refused 41
     unfolding scan
-    scan-feed b = rw (two, b)
+    scan-spoilt u = rw (two, no-end _ _ r, u)
 
-    pub scan-quote : get_or s i 0 ≡ quote_mark → scan i n (drop i s) ≡ refused 41
-    unfolding scan
-    scan-quote b = rw (two, b)
-
-    module _ (f : get_or s i 0 ≡ line_feed → ⊥) (q : get_or s i 0 ≡ quote_mark → ⊥) where
+    module _ (u : spoils (get_or s i 0) ≡ false) where
       pub scan-comma : get_or s i 0 ≡ comma → scan i n (drop i s) ≡ scan (i + 1) (n + 1) (drop (i + 1) s)
       unfolding scan
-      scan-comma b = rw (two, tail, b)
+      scan-comma b = rw (two, tail, no-end _ _ r, u, eq-eqb _ _ b)
 
       pub scan-other : (get_or s i 0 ≡ comma → ⊥) → scan i n (drop i s) ≡ scan (i + 1) n (drop (i + 1) s)
       unfolding scan
-      scan-other b = rw (two, tail, ne_eqb _ _ r, ne_eqb _ _ f, ne_eqb _ _ q, ne_eqb _ _ b)
+      scan-other b = rw (two, tail, no-end _ _ r, u, ne_eqb _ _ b)

@@ -1,14 +1,14 @@
--- A `msg` line, by its name and part by part, at the place e of a comma as the code finds it.
-use mathlib.Core.Path.{◌≡◌, refl, ◌∙◌}
+-- A `msg` line, by its name and part by part.
+use mathlib.Core.Path.{◌≡◌, refl}
 use mathlib.Core.List.{List, [], ◌∷◌}
-use Prim.Native.Nat.{ℕ, ◌+◌, ◌<◌, ◌≤◌}
+use Prim.Native.Nat.{ℕ, ◌-◌, ◌+◌, ◌≤◌}
 use native.Mathlib.Omega.{arith}
-use lib.{IntN.ℤ, ListN.length, ListN.take, ListN.drop, ListN.set}
-use Rattle.model.specs.{Parsed.got, Parsed.refused, Text.bytes, Text.comma, Text.find, Text.split, Pair.ByKey, Pair.pair, Messages.all_absent, Messages.parts, Text.free}
+use lib.{IntN.ℤ, ListN.length, ListN.set, ListN.take, ListN.drop, Seq.drop-drop}
+use Rattle.model.specs.{Parsed.got, Parsed.refused, Text.bytes, Text.comma, Text.split, Pair.ByKey, Pair.pair, Messages.all_absent, Messages.parts, Text.free}
 use Rattle.model.specs.{Messages.message, Messages.message_line, Stored.entry_in, Stored.first_of}
 use Rattle.model.specs.declared.{Entry.Entry, Entry.TheVariants.Number, EntrySlot.EntrySlot}
 use Rattle.model_text.specs.Found.{Word}
-use Rattle.model_text.proofs.LineLaws.{parts-some, parts_last, parts_more}
+use Rattle.model_text.proofs.TextLaws.{rest}
 use Rattle.read_pair.specs.Pair.{by_key}
 use Rattle.read_pair.proofs.Laws.{part-bad, part-ok}
 
@@ -16,7 +16,7 @@ pub msg-word : Word (bytes "msg") (109 ∷ 115 ∷ 103 ∷ 61 ∷ [])
 unfolding bytes free
 msg-word = record { sign = refl; no_sign = refl; no-feed = refl }
 
-parts_none : (K : ℕ) (e : ByKey Entry) → parts K e [] ≡ got e
+pub parts_none : (K : ℕ) (e : ByKey Entry) → parts K e [] ≡ got e
 unfolding parts
 parts_none K e = refl
 
@@ -30,6 +30,10 @@ unfolding message
 message-parts K [] h = absurd (h refl)
 message-parts K (b ∷ s) h = refl
 
+-- what stands from v to e in the text from a on
+pub text-within : (s : List ℕ) (a v e : ℕ) → take (a + e - (a + v)) (drop (a + v) s) ≡ take (e - v) (drop v (take (length s - a) (drop a s)))
+text-within s a v e = let n : a + e - (a + v) ≡ e - v = omega arith in rw (rest s a, drop-drop v a s, n)
+
 module _ (K : ℕ) (s : List ℕ) where
   pub line-bad : (r : ℕ) → message K s ≡ refused r → message_line K s ≡ refused r
   unfolding message_line
@@ -39,27 +43,16 @@ module _ (K : ℕ) (s : List ℕ) where
   unfolding message_line by_key
   line_ok next slots h = rw h
 
--- ---- One turn of a loop over the parts of s: t is what is left of s from a on, and e the place of its first comma
+-- ---- One part more, and what the array holds before it
 
-module _ (K : ℕ) (some : 1 ≤ K) (next : ℕ) (slots : List EntrySlot) (s t : List ℕ) (a e : ℕ) (g : t ≡ drop a s) (q : e ≡ find comma t) where
-  -- what the array holds, before this part and after it
+module _ (K : ℕ) (some : 1 ≤ K) (next : ℕ) (slots : List EntrySlot) (p : List ℕ) (ps : List (List ℕ)) where
   abbrev before : ByKey Entry
   before = by_key entry_in K next slots
 
-  abbrev after : ℕ → ℤ → ByKey Entry
-  after k v = by_key entry_in K (k + 1) (set slots k (record { entry = Number v }))
-
-  more : (p : List ℕ) (ps : List (List ℕ)) (k : ℕ) (v : ℤ) → pair K next p ≡ got (k, v) → parts K before (p ∷ ps) ≡ parts K (after k v) ps
+  pub part_bad : (r : ℕ) → pair K next p ≡ refused r → parts K before (p ∷ ps) ≡ refused r
   unfolding parts
-  more p ps k v h = rw (part-ok entry_in Number K next slots p k v (record { entry = Number v }) some refl h)
+  part_bad r h = rw (part-bad entry_in Number K next slots p r h)
 
-  pub turn-bad : (r : ℕ) → pair K next (take e t) ≡ refused r → parts K before (split comma (drop a s)) ≡ refused r
+  pub part_more : (k : ℕ) (v : ℤ) → pair K next p ≡ got (k, v) → parts K before (p ∷ ps) ≡ parts K (by_key entry_in K (k + 1) (set slots k (record { entry = Number v }))) ps
   unfolding parts
-  turn-bad r h = let f = parts-some comma s t a e g q in rw (f.1, part-bad entry_in Number K next slots (take e t) r h)
-
-  module _ (k : ℕ) (v : ℤ) (h : pair K next (take e t) ≡ got (k, v)) where
-    pub turn_last : length t ≤ e → parts K before (split comma (drop a s)) ≡ got (after k v)
-    turn_last l = rw (parts_last comma s t a e g q l) (more (take e t) [] k v h ∙ parts_none K (after k v))
-
-    pub turn_more : e < length t → parts K before (split comma (drop a s)) ≡ parts K (after k v) (split comma (drop (a + e + 1) s))
-    turn_more l = rw (parts_more comma s t a e g q l) (more (take e t) (split comma (drop (a + e + 1) s)) k v h)
+  part_more k v h = rw (part-ok entry_in Number K next slots p k v (record { entry = Number v }) some refl h)

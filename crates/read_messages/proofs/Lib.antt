@@ -1,2 +1,3 @@
--- The laws of the `msg` lines.
+-- The laws of the `msg` lines, of loops over what an iterator yields, and of refusals that get the number of their line.
 pub mod Laws
+pub mod Items

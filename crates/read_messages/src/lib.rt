@@ -2,118 +2,97 @@
 #![tactic(auto)]
 
 ghost use Rattle.std.specs.Prelude.{◌≡◌, ◌+◌, ◌<◌, ◌≤◌, length};
-ghost use Rattle.model.specs.{Messages.message_line, Stored.key_capacity, Form.Fits};
-ghost use Rattle.read_messages.specs.Messages.{message_as, MessagesRead};
+ghost use Rattle.std.specs.Iterator.{YieldsFirstRef, item_count};
+ghost use Rattle.model.specs.{Messages.message_line, Text.comma, Text.split, Refusal.parsed_by, Stored.key_capacity, Stored.entries_in, Form.Fits};
+ghost use Rattle.read_messages.specs.Messages.{MessagesRead, parts_left};
 
-use model::{Entry, EntrySlot, Form, MESSAGE_CAPACITY, MessageLine, StoredJob};
-use read_line::{Checked, Found, Phase, first_line};
-use read_pair::{Pair, read_pair};
+use model::{Entry, EntrySlot, Fault, Form, MESSAGE_CAPACITY, MessageLine, Refusal};
+use read_line::{Mark, first_line, on_line};
+use read_pair::read_pair;
 use read_text::find_byte;
 
-// A message line, which counts where it was read.
-#[derive(Clone, Copy)]
-pub struct Message {
-    pub checked: Checked,
-    pub line: MessageLine,
+// The parts of a text with commas between them. std's `split` tests byte by byte: with it read_messages takes 144 bytes
+// more of code and 5 to 7 in a hundred more instructions.
+#[derive(Drop)]
+pub struct Parts<'a> {
+    rest: Option<&'a [u8]>,
 }
 
-// The first count messages of the array.
-#[derive(Clone, Copy)]
-pub struct Messages {
-    pub phase: Phase,
-    pub count: usize,
-    pub messages: [MessageLine; MESSAGE_CAPACITY],
+impl<'a> Parts<'a> {
+    pub fn of(s: &'a [u8]) -> Parts<'a>
+        ensures { parts_left result ≡ split comma s.now }
+    {
+        Parts { rest: Some(s) }
+    }
+}
+
+impl<'a> Iterator for Parts<'a> {
+    type Item = &'a [u8];
+
+    ghost next_gives = { YieldsFirstRef parts_left };
+
+    ghost remaining = { item_count parts_left };
+
+    fn next(&mut self) -> Option<&'a [u8]> {
+        let t = self.rest?;
+        let e = find_byte(t, b',');
+        self.rest = if e < t.len() { Some(&t[e + 1..]) } else { None };
+        Some(&t[..e])
+    }
 }
 
 // What follows `msg=`: parts with commas between them, or nothing.
-pub fn read_message(s: &[u8], keys: u64) -> Message
+pub fn read_message(s: &[u8], keys: u64) -> Result<MessageLine, Refusal>
     requires { (1 ≤ keys) × (keys ≤ key_capacity) }
-    ensures { message_as keys result ≡ message_line keys s.now }
+    ensures { parsed_by (entries_in keys) result ≡ message_line keys s.now }
 {
     let mut slots = MessageLine::no_entries();
-    if s.len() == 0 {
-        return Message {
-            checked: Checked::Got,
-            line: MessageLine { slots },
-        };
+    if s.is_empty() {
+        return Ok(MessageLine { slots });
     }
-    let checked: Checked;
     let mut next: u64 = 0;
-    let mut a: usize = 0;
-    loop {
-        let t = &s[a..];
-        let e = find_byte(t, b',');
-        match read_pair(&t[..e], keys, next) {
-            Pair::Refused(r) => {
-                checked = Checked::Refused(r);
-                break;
-            }
-            Pair::Got(k, v) => {
-                let at = k as usize;
-                slots[at] = EntrySlot {
-                    entry: Entry::Number(v),
-                };
-                next = k + 1;
-            }
-        }
-        if t.len() <= e {
-            checked = Checked::Got;
-            break;
-        }
-        a = a + e + 1;
+    for part in Parts::of(s) {
+        let (k, v) = read_pair(part, keys, next)?;
+        slots[k as usize] = EntrySlot {
+            entry: Entry::Number(v),
+        };
+        next = k + 1;
     }
-    Message {
-        checked,
-        line: MessageLine { slots },
-    }
+    Ok(MessageLine { slots })
 }
 
-// The `msg` lines at the start of s, of which the first has the number first.
+// The `msg` lines at the start of s, of which the first has the number first, as messages at the front of an array; how
+// many there are.
 // Called and not inlined: each call's result has a place of its own on the stack of the function that it is inlined
 // into, so that all phases of reading would lie there at once.
 #[inline(never)]
-pub fn read_messages(s: &[u8], form: Form, keys: u64, first: u32) -> Messages
+pub fn read_messages(
+    s: &[u8],
+    form: Form,
+    keys: u64,
+    first: u32,
+    messages: &mut [MessageLine; MESSAGE_CAPACITY],
+) -> Result<(usize, Mark), Fault>
     requires { Fits form × (1 ≤ keys) × (keys ≤ form.keys) × (first + length s.now < 4294967296) }
-    ensures { MessagesRead form keys s.now first result }
+    ensures { MessagesRead form keys s.now first result messages.new }
 {
-    let mut messages = StoredJob::no_messages();
     let mut count: usize = 0;
     let mut line = first;
-    let mut a: usize = 0;
-    let phase: Phase;
+    let mut at: usize = 0;
     loop {
-        let t = &s[a..];
-        match first_line(t, b"msg=") {
-            Found::Other => {
-                phase = Phase::Got(line, a);
-                break;
-            }
-            Found::At(v, e) => {
-                if form.messages <= count {
-                    phase = Phase::Refused(8, line);
-                    break;
-                }
-                let m = read_message(&t[v..e], keys);
-                let checked = m.checked;
-                match checked {
-                    Checked::Refused(r) => {
-                        phase = Phase::Refused(r, line);
-                        break;
-                    }
-                    Checked::Got => {
-                        let entries = m.line;
-                        messages[count] = entries;
-                        count += 1;
-                        line += 1;
-                        a = a + e + 1;
-                    }
-                }
-            }
+        let t = &s[at..];
+        let Some((v, e)) = first_line(t, b"msg=") else {
+            return Ok((count, Mark { line, at }));
+        };
+        if form.messages <= count {
+            return Err(Fault {
+                refusal: Refusal::TooMany,
+                line,
+            });
         }
-    }
-    Messages {
-        phase,
-        count,
-        messages,
+        messages[count] = on_line(read_message(&t[v..e], keys), line)?;
+        count += 1;
+        line += 1;
+        at = at + e + 1;
     }
 }

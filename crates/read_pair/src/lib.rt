@@ -2,37 +2,24 @@
 #![tactic(auto)]
 
 ghost use Rattle.std.specs.Prelude.{◌≡◌, ◌<◌, ◌≤◌};
-ghost use Rattle.model.specs.Pair.{pair};
-ghost use Rattle.read_pair.specs.Pair.{pair_as};
+ghost use Rattle.model.specs.{Pair.pair, Refusal.parsed};
 
-use read_text::{Natural, Whole, find_byte, number_of, up_to};
-
-// A `key:value` that was read, or the number of its refusal.
-#[derive(Clone, Copy)]
-pub enum Pair {
-    Got(u64, i32),
-    Refused(u32),
-}
+use model::Refusal;
+use read_text::{find_byte, number_of, up_to};
 
 // One `key:value`, its key at least next.
-pub fn read_pair(p: &[u8], keys: u64, next: u64) -> Pair
+pub fn read_pair(p: &[u8], keys: u64, next: u64) -> Result<(u64, i32), Refusal>
     requires { (1 ≤ keys) × (keys < 4294967296) }
-    ensures { pair_as result ≡ pair keys next p.now }
+    ensures { parsed result ≡ pair keys next p.now }
 {
     let e = find_byte(p, b':');
     if p.len() <= e {
-        return Pair::Refused(4);
+        return Err(Refusal::BadNumber);
     }
-    match up_to(&p[..e], keys - 1) {
-        Natural::Refused(r) => Pair::Refused(r),
-        Natural::Got(k) => {
-            if k < next {
-                return Pair::Refused(5);
-            }
-            match number_of(&p[e + 1..]) {
-                Whole::Refused(r) => Pair::Refused(r),
-                Whole::Got(v) => Pair::Got(k, v),
-            }
-        }
+    let k = up_to(&p[..e], keys - 1)?;
+    if k < next {
+        return Err(Refusal::KeyOrder);
     }
+    let v = number_of(&p[e + 1..])?;
+    Ok((k, v))
 }

@@ -6,13 +6,19 @@ use native.Mathlib.{Numerals.add-one, Omega.arith}
 use lib.{ListN.length, ListN.take, ListN.drop, ListN.get_or, ListN.drop_of_length-le, Seq.drop-cons, Seq.get_or-take, Seq.length-take-le}
 use borrow.Author.Tests.{lt-ltb, le-ltb}
 use Rattle.model.specs.{Text.bytes, Text.lines, Command.limits, Command.read_command, Job.Job, Phase.many, Phase.one_more, Phase.some, Text.free}
-use Rattle.model.specs.{Program.read_commands, Sheet.targets, Stored.command_capacity}
+use Rattle.model.specs.{Program.read_commands, Sheet.refused, Sheet.targets}
 use Rattle.model.specs.Phase as Model
-use Rattle.model.specs.declared.{Form.Form, Command.Command}
+use Rattle.model.specs.declared.{Form.Form, Command.Command, Fault.Fault, Refusal.TheVariants.Misplaced}
 use Rattle.model_text.specs.Found.{Word}
 use Rattle.read_line.specs.Phase.{Reads}
-use Rattle.read_program.specs.Program.{FirstFar}
-use Rattle.read_line.specs.declared.Phase.TheVariants.{Got, Refused}
+use Rattle.read_program.specs.Program.{far_as, FirstFar}
+use Rattle.std.proofs.lemmas.List.Quantifiers.{position-Some}
+use lib.IntN.{pos}
+use Rattle.model.specs.declared.Op.TheVariants.{Stop}
+use Rattle.std.proofs.Common.{Ok, Err, Option, None, Some, Bool, true, false, cond, add_assoc, add-zero}
+use Rattle.std.specs.List.{position, position_from}
+use Rattle.std.proofs.lemmas.Iterator.Adapters.{position_from-zero}
+use lib.Dec.{ltb}
 
 pub do-word : Word (bytes "do") (100 ∷ 111 ∷ 61 ∷ [])
 unfolding bytes free
@@ -38,51 +44,46 @@ some-some n ls (c ∷ cs) h = refl
 abbrev pub do_lines : Form → ℕ → ℕ → List (List ℕ) → Model.Phase (List Command)
 do_lines f K n ls = many (bytes "do") (one_more f.commands (read_command (limits K f.commands))) n [] ls
 
-pub commands-refused : (f : Form) (K : ℕ) {first r n : ℕ} {s : List ℕ} {xs : List Command} → Reads (do_lines f K) s first (Refused r n) xs → Reads (read_commands f K) s first (Refused r n) xs
+-- what the array holds, each command as it stands
+abbrev pub lines_as : List Command → ℕ → List Command
+lines_as cs n = map itself (take n cs)
+
+pub commands-refused : (f : Form) (K : ℕ) (cs : List Command) {first : ℕ} {e : Fault} {s : List ℕ} → Reads (do_lines f K) (lines_as cs) s first (Err e) → Reads (read_commands f K) (λ n. take n cs) s first (Err e)
 unfolding read_commands
-commands-refused f K h = record { read = ap some h.read; ahead = tt }
+commands-refused f K cs h = record { read = ap some h.read; ahead = tt }
 
-module _ (f : Form) (K m : ℕ) (cs : List Command) {first n b : ℕ} {s : List ℕ} (h : Reads (do_lines f K) s first (Got n b) (map itself (take m cs))) (l : m ≤ length cs) where
-  pub commands-none : m ≡ 0 → Reads (read_commands f K) s first (Refused 3 n) (take m cs)
+module _ (f : Form) (K : ℕ) (cs : List Command) (m : ℕ) {first n b : ℕ} {s : List ℕ} (h : Reads (do_lines f K) (lines_as cs) s first (Ok (m, record { line = n; at = b }))) (l : m ≤ length cs) where
+  pub commands-none : m ≡ 0 → Reads (read_commands f K) (λ k. take k cs) s first (Err (record { refusal = Misplaced; line = n }))
   unfolding read_commands
-  commands-none z = record { read = sym (some-none n (lines (drop b s)) (map itself (take m cs)) (rw (map-itself, length-take-le m cs l) z)) ∙ ap some h.read; ahead = tt }
+  commands-none z = record { read = sym (some-none n (lines (drop b s)) (lines_as cs m) (rw (map-itself, length-take-le m cs l) z)) ∙ ap some h.read; ahead = tt }
 
-  pub commands-some : (m ≡ 0 → ⊥) → Reads (read_commands f K) s first (Got n b) (take m cs)
+  pub commands-some : (m ≡ 0 → ⊥) → Reads (read_commands f K) (λ k. take k cs) s first (Ok (m, record { line = n; at = b }))
   unfolding read_commands
   commands-some z =
       let e = map-itself (take m cs) in
-      record { read = ap (λ (ds : List Command). Model.got ds n (lines (drop b s))) (sym e) ∙ sym (some-some n (lines (drop b s)) (map itself (take m cs)) (λ q. z (sym (length-take-le m cs l) ∙ sym (ap length e) ∙ q))) ∙ ap some h.read; ahead = h.ahead }
+      record { read = ap (λ (ds : List Command). Model.got ds n (lines (drop b s))) (sym e) ∙ sym (some-some n (lines (drop b s)) (lines_as cs m) (λ q. z (sym (length-take-le m cs l) ∙ sym (ap length e) ∙ q))) ∙ ap some h.read; ahead = h.ahead }
 
--- ---- The targets of m commands, of which those before i do not exceed m
+-- ---- The targets of the commands, at most m each
 
-pub record Near (cs : List Command) (m i : ℕ) : Type 0 where
-  pub same : (top : ℕ) (j : Job) → targets top m (take m cs) j ≡ targets (top + i) m (drop i (take m cs)) j
-  pub place : i ≤ m
+-- of those from the place i on
+targets-from : (m top i : ℕ) (cs : List Command) (j : Job) → targets (top + i) m cs j ≡ far_as top j (position_from (λ c. ltb m c.t) i cs)
+unfolding targets
+targets-from m top i [] j = refl
+targets-from m top i (c ∷ cs) j = go (ltb m c.t) (rw (add_assoc top i 1) (targets-from m top (i + 1) cs j))
+  where
+    go : (b : Bool) → targets (top + i + 1) m cs j ≡ far_as top j (position_from (λ c. ltb m c.t) (i + 1) cs)
+        → cond b (refused 7 (top + i)) (targets (top + i + 1) m cs j) ≡ far_as top j (cond b (Some i) (position_from (λ c. ltb m c.t) (i + 1) cs))
+    go true e = refl
+    go false e = e
 
-pub near_first : (cs : List Command) (m : ℕ) → Near cs m 0
-near_first cs m = record { same = λ top j. let n : top ≡ top + 0 = omega arith in ap (λ (k : ℕ). targets k m (take m cs) j) n; place = zero-le }
+pub targets-position : (m top : ℕ) (cs : List Command) (j : Job) → targets top m cs j ≡ far_as top j (position (λ c. ltb m c.t) cs)
+targets-position m top cs j = rw (position_from-zero (λ (c : Command). ltb m c.t) cs, ← (targets-from m top 0 cs j), add-zero) refl
 
-module _ {cs : List Command} {m i : ℕ} (g : Near cs m i) (l : m ≤ length cs) (n : length cs ≤ command_capacity) where
-  pub near-all : m ≤ i → FirstFar cs m i
-  unfolding targets
-  near-all h =
-      let k : length (take m cs) ≤ i = rw (length-take-le m cs l) h in
-      record { reading = λ top j. g.same top j ∙ rw (drop_of_length-le (take m cs) k, le-ltb _ _ h); place = omega (arith, g.place) }
-
-  module _ (d : Command) (h : i < m) where
-    here : drop i (take m cs) ≡ get_or cs i d ∷ drop (i + 1) (take m cs)
-    here =
-        let k : i < length (take m cs) = rw (length-take-le m cs l) h in
-        rw (add-one, drop-cons (take m cs) i d k, get_or-take m cs i d h)
-
-    pub far-here : m < (get_or cs i d).t → FirstFar cs m i
-    unfolding targets
-    far-here f = record { reading = λ top j. g.same top j ∙ rw (here, lt-ltb _ _ f, lt-ltb _ _ h); place = omega (arith, g.place) }
-
-    pub near_next : (get_or cs i d).t ≤ m → Near cs m (i + 1)
-    unfolding targets
-    near_next f =
-        record {
-          same = λ top j. let n : top + i + 1 ≡ top + (i + 1) = omega arith in g.same top j ∙ rw (here, le-ltb _ _ f, n);
-          place = omega arith;
-        }
+pub first-far : (cs : List Command) (r : Option ℕ) → r ≡ position (λ c. ltb (length cs) c.t) cs → FirstFar cs r
+first-far cs None e = record { reading = λ top j. targets-position (length cs) top cs j ∙ ap (far_as top j) (sym e); place = tt }
+first-far cs (Some i) e =
+    let w : Command = record { op = Stop; v = 0; w = 0; k = 0; t = 0; n = pos 0 } in
+    record {
+      reading = λ top j. targets-position (length cs) top cs j ∙ ap (far_as top j) (sym e);
+      place = (position-Some (λ (c : Command). ltb (length cs) c.t) cs i w (sym e)).0;
+    }

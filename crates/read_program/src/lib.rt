@@ -1,85 +1,59 @@
 // The `do` lines of a sheet, and the targets of its commands.
 #![tactic(auto)]
 
-ghost use Rattle.std.specs.Prelude.{◌+◌, ◌<◌, ◌≤◌, length};
+ghost use Rattle.std.specs.Prelude.{◌≡◌, ◌+◌, ◌<◌, ◌≤◌, length, nat_lt, position};
 ghost use Rattle.model.specs.Form.{Fits};
-ghost use Rattle.read_program.specs.Program.{CommandsRead, FirstFar};
+ghost use Rattle.read_program.specs.Program.{CommandsRead};
 
-use model::{COMMAND_CAPACITY, Command, Form, StoredJob};
-use read_command::{Line, read_command};
-use read_line::{Found, Phase, first_line};
+use model::{COMMAND_CAPACITY, Command, Fault, Form, Refusal};
+use read_command::read_command;
+use read_line::{Mark, first_line, on_line};
 
-// The first count commands of the array.
-#[derive(Clone, Copy)]
-pub struct Commands {
-    pub phase: Phase,
-    pub count: usize,
-    pub commands: [Command; COMMAND_CAPACITY],
-}
-
-// The `do` lines at the start of s, of which the first has the number first. There is one at least.
+// The `do` lines at the start of s, of which the first has the number first, as commands at the front of an array; how
+// many there are, one at least.
 // Called and not inlined: each call's result has a place of its own on the stack of the function that it is inlined
 // into, so that all phases of reading would lie there at once.
 #[inline(never)]
-pub fn read_commands(s: &[u8], form: Form, keys: u64, first: u32) -> Commands
+pub fn read_commands(
+    s: &[u8],
+    form: Form,
+    keys: u64,
+    first: u32,
+    commands: &mut [Command; COMMAND_CAPACITY],
+) -> Result<(usize, Mark), Fault>
     requires { Fits form × (1 ≤ keys) × (keys ≤ form.keys) × (first + length s.now < 4294967296) }
-    ensures { CommandsRead form keys s.now first result }
+    ensures { CommandsRead form keys s.now first result commands.new }
 {
-    let mut commands = StoredJob::no_commands();
     let mut count: usize = 0;
     let mut line = first;
-    let mut a: usize = 0;
-    let phase: Phase;
+    let mut at: usize = 0;
     loop {
-        let t = &s[a..];
-        match first_line(t, b"do=") {
-            Found::Other => {
-                if count == 0 {
-                    phase = Phase::Refused(3, line);
-                    break;
-                }
-                phase = Phase::Got(line, a);
-                break;
+        let t = &s[at..];
+        let Some((v, e)) = first_line(t, b"do=") else {
+            if count == 0 {
+                return Err(Fault {
+                    refusal: Refusal::Misplaced,
+                    line,
+                });
             }
-            Found::At(v, e) => {
-                if form.commands <= count {
-                    phase = Phase::Refused(8, line);
-                    break;
-                }
-                match read_command(&t[v..e], keys, form.commands as u64) {
-                    Line::Refused(r) => {
-                        phase = Phase::Refused(r, line);
-                        break;
-                    }
-                    Line::Got(c) => {
-                        commands[count] = c;
-                        count += 1;
-                        line += 1;
-                        a = a + e + 1;
-                    }
-                }
-            }
+            return Ok((count, Mark { line, at }));
+        };
+        if form.commands <= count {
+            return Err(Fault {
+                refusal: Refusal::TooMany,
+                line,
+            });
         }
-    }
-    Commands {
-        phase,
-        count,
-        commands,
+        commands[count] = on_line(read_command(&t[v..e], keys, form.commands as u64), line)?;
+        count += 1;
+        line += 1;
+        at = at + e + 1;
     }
 }
 
-// The place of the first command whose target exceeds the count, or the count where there is none.
-pub fn first_far(commands: [Command; COMMAND_CAPACITY], count: usize) -> usize
-    requires { count ≤ length commands }
-    ensures { FirstFar commands count result }
+// The place of the first command whose target exceeds the count.
+pub fn first_far(commands: &[Command]) -> Option<usize>
+    ensures { result ≡ position (λ c. nat_lt (length commands.now) c.t) commands.now }
 {
-    let mut i = 0;
-    while i < count {
-        let c = commands[i];
-        if count < c.t as usize {
-            break;
-        }
-        i += 1;
-    }
-    i
+    commands.iter().position(|c| commands.len() < c.t as usize)
 }

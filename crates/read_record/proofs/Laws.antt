@@ -1,19 +1,31 @@
--- Laws of the loops over what a count covers of an array: what is left of it passes or not as the whole does, and makes the rest of what the whole makes.
+-- What the loops keep of an array: what is left of it passes or not as the whole does, and makes the rest of what the
+-- whole makes.
 use Prim.Native.Nat.{ℕ, ◌+◌, ◌<◌, ◌≤◌}
 use mathlib.Core.Path.{◌≡◌, refl, sym, ap, ◌∙◌}
-use mathlib.Core.Bool.{Bool, true, false, ◌&&◌, and-false, and-true}
+use mathlib.Core.Bool.{Bool, true, false, ◌&&◌, cond, and-false, and-true}
 use mathlib.Core.List.{List, [], ◌∷◌, ◌++◌, map, append-nil, append_assoc}
+use native.Mathlib.{Omega.arith, Numerals.add-one}
 use borrow.Author.Tests.{ltb-true}
 use mir.{Syntax.w32, Val.SFits}
-use lib.{IntN.ℤ, Dec.leb, Dec.ltb, ListN.length, ListN.take, ListN.drop, ListN.set, ListN.replicate}
-use Rattle.model.specs.{Stored.first_of, Stored.key_in, Stored.open_slot}
-use Rattle.model.specs.declared.{Key.Key, Key.TheVariants.Open, KeySlot.KeySlot}
+use Rattle.std.proofs.Common.{Some, None}
+use lib.{Dec.leb, Dec.ltb, ListN.length, ListN.get_or, ListN.take, ListN.drop, ListN.set, ListN.replicate, ListN.drop_of_length-le, Seq.drop-cons}
+use Rattle.model.specs.Stored.{first_of}
+use Rattle.model.specs.declared.Owner.{Owner}
 use Rattle.model.proofs.Stored.{first-set, first-same, map_more}
 use Rattle.model.specs.Accepted.{all}
-use Rattle.model_record.specs.Record.{rising, enters_all, owner_fits, secret_fits, key_of, hides}
-use Rattle.model_record.specs.declared.SecretRecord.{SecretRecord}
+use Rattle.model_record.specs.Record.{rising, enters_all, owner_fits, secret_fits, key_of, hides, entry_pair}
+use Rattle.model.specs.declared.{Entry.Entry, Entry.TheVariants.Number}
+use Rattle.model_record.specs.declared.{SecretRecord.SecretRecord, EntryRecord.EntryRecord}
 use Rattle.model_text.proofs.{TextLaws.and_both, Tests.Tested, Tests.tested-more}
 use Rattle.read_fields.proofs.Laws.{in-range}
+
+-- ---- What is left of an array: one and those behind it, or none
+
+pub left : {A : Type 0} (xs : List A) (i : ℕ) (d : A) → i < length xs → drop i xs ≡ get_or xs i d ∷ drop (i + 1) xs
+left xs i d l = rw (add-one) (drop-cons xs i d l)
+
+pub none : {A : Type 0} (xs : List A) (i : ℕ) → length xs ≤ i → drop i xs ≡ []
+none xs i l = drop_of_length-le xs l
 
 -- ---- Elements that are made into those of another array, one after the other, as g shows them
 
@@ -29,8 +41,10 @@ module _ {A S B : Type 0} (p : A → Bool) (f : A → B) (g : S → B) (xs : Lis
 
 module _ {A S B : Type 0} {p : A → Bool} {f : A → B} {g : S → B} {xs : List A} {i : ℕ} {taken : List S} (t : Taking p f g xs i taken) where
   -- the next one passes, and y is what it makes
-  pub taking-more : {x : A} (y : S) → drop i xs ≡ x ∷ drop (i + 1) xs → p x ≡ true → g y ≡ f x → i < length taken → Taking p f g xs (i + 1) (set taken i y)
-  taking-more {x} y e h q l =
+  pub taking-more : (d : A) (y : S) → i < length xs → p (get_or xs i d) ≡ true → g y ≡ f (get_or xs i d) → i < length taken → Taking p f g xs (i + 1) (set taken i y)
+  taking-more d y some h q l =
+      let x = get_or xs i d in
+      let e = left xs i d some in
       record {
         tested = tested-more t.tested e h;
         made =
@@ -40,10 +54,11 @@ module _ {A S B : Type 0} {p : A → Bool} {f : A → B} {g : S → B} {xs : Lis
       }
 
   -- there is none left
-  pub taking-end : (n : ℕ) → i ≡ n → drop i xs ≡ [] → map g (take n taken) ≡ map f xs
-  taking-end n q e = rw (← q) (sym (append-nil (map g (take i taken))) ∙ ap (λ (zs : List A). map g (take i taken) ++ map f zs) (sym e) ∙ t.made)
+  pub taking-end : i ≡ length xs → map g (take (length xs) taken) ≡ map f xs
+  taking-end q =
+      rw (← q) (sym (append-nil (map g (take i taken))) ∙ ap (λ (zs : List A). map g (take i taken) ++ map f zs) (sym (none xs i (omega (arith, q)))) ∙ t.made)
 
--- ---- Values that are entered at their keys: pair gives an element's key and value, f the thing that is entered, and g the thing in a slot
+-- ---- Elements that are put at their keys, which rise
 
 -- two pairs of tests, the first of each before the second
 both_first : (a b c d : Bool) → (a && b) && (c && d) ≡ (a && c) && (b && d)
@@ -51,95 +66,90 @@ both_first false b c d = refl
 both_first true b true d = refl
 both_first true b false d = and-false b
 
-module _ {A : Type 0} (pair : A → ℕ × ℤ) (fits : A → Bool) (K : ℕ) where
+-- what they make of an array, one after the other: each its value at its key
+pub record Enters {A B : Type 0} (key : A → ℕ) (value : A → B) (enter : List B → List A → List B) : Type 0 where
+  pub last : (l : List B) → enter l [] ≡ l
+  pub next : (l : List B) (x : A) (xs : List A) → enter l (x ∷ xs) ≡ enter (set l (key x) (value x)) xs
+
+module _ {A : Type 0} (key : A → ℕ) (fits : A → Bool) (K : ℕ) where
   -- the tests of all elements, where next is the least key that may come, and those of one
   abbrev good : ℕ → List A → Bool
-  good next xs = rising K next (map (λ (x : A). (pair x).0) xs) && all fits xs
+  good next xs = rising K next (map key xs) && all fits xs
 
   abbrev pub good_one : ℕ → A → Bool
-  good_one next x = leb next (pair x).0 && ltb (pair x).0 K && fits x
+  good_one next x = leb next (key x) && ltb (key x) K && fits x
 
   -- the tests of the first, and then those of the others
-  first_good : (next : ℕ) (x : A) (xs : List A) → good next (x ∷ xs) ≡ good_one next x && good ((pair x).0 + 1) xs
+  first_good : (next : ℕ) (x : A) (xs : List A) → good next (x ∷ xs) ≡ good_one next x && good (key x + 1) xs
   unfolding all rising
-  first_good next x xs = both_first (leb next (pair x).0 && ltb (pair x).0 K) (rising K ((pair x).0 + 1) (map (λ (y : A). (pair y).0) xs)) (fits x) (all fits xs)
+  first_good next x xs = both_first (leb next (key x) && ltb (key x) K) (rising K (key x + 1) (map key xs)) (fits x) (all fits xs)
 
   -- a key that passes is one of the keys
-  pub good-below : (next : ℕ) (x : A) → good_one next x ≡ true → (pair x).0 < K
-  good-below next x h =
-      let order = and_both (leb next (pair x).0 && ltb (pair x).0 K) (fits x) h in
-      ltb-true _ _ (and_both (leb next (pair x).0) (ltb (pair x).0 K) order.0).1
+  pub good-below : (next : ℕ) (x : A) → (leb next (key x) && ltb (key x) K) ≡ true → key x < K
+  good-below next x h = ltb-true _ _ (and_both (leb next (key x)) (ltb (key x) K) h).1
 
   -- the elements before i pass and are entered in the slots: the rest, where next is the least key that may come, decides and is entered there
-  pub record Entering {S B : Type 0} (f : ℤ → B) (g : S → B) (blank : B) (xs : List A) (i next : ℕ) (slots : List S) : Type 0 where
+  pub record Entering {S B : Type 0} (enter : List B → List A → List B) (g : S → B) (blank : B) (xs : List A) (i next : ℕ) (slots : List S) : Type 0 where
     pub test : good 0 xs ≡ good next (drop i xs)
-    pub made : enters_all f (replicate K blank) (map pair xs) ≡ enters_all f (first_of g K slots) (map pair (drop i xs))
+    pub made : enter (replicate K blank) xs ≡ enter (first_of g K slots) (drop i xs)
 
-module _ {A S B : Type 0} {pair : A → ℕ × ℤ} {fits : A → Bool} {K : ℕ} {f : ℤ → B} {g : S → B} where
+module _ {A S B : Type 0} {key : A → ℕ} {fits : A → Bool} {K : ℕ} {enter : List B → List A → List B} {g : S → B} where
   -- at first there is the same in every slot
-  pub entering-begins : (m : ℕ) (s : S) {xs : List A} → K ≤ m → Entering pair fits K f g (g s) xs 0 0 (replicate m s)
-  entering-begins m s {xs} h = record { test = refl; made = ap (λ (l : List B). enters_all f l (map pair xs)) (sym (first-same g K m s h)) }
+  pub entering-begins : (m : ℕ) (s : S) {xs : List A} → K ≤ m → Entering key fits K enter g (g s) xs 0 0 (replicate m s)
+  entering-begins m s {xs} h = record { test = refl; made = ap (λ (l : List B). enter l xs) (sym (first-same g K m s h)) }
 
-  module _ {blank : B} {xs : List A} {i next : ℕ} {slots : List S} (t : Entering pair fits K f g blank xs i next slots) where
+  module _ {blank : B} {xs : List A} {i next : ℕ} {slots : List S} (t : Entering key fits K enter g blank xs i next slots) where
     -- the next one does not pass
-    pub entering-bad : {x : A} {ys : List A} → drop i xs ≡ x ∷ ys → good_one pair fits K next x ≡ false → good pair fits K 0 xs ≡ false
-    entering-bad {x} {ys} e h =
-        t.test ∙ ap (good pair fits K next) e ∙ first_good pair fits K next x ys
-        ∙ ap (λ (b : Bool). b && good pair fits K ((pair x).0 + 1) ys) h
+    pub entering-bad : (d : A) → i < length xs → good_one key fits K next (get_or xs i d) ≡ false → good key fits K 0 xs ≡ false
+    entering-bad d l h =
+        let x = get_or xs i d in
+        let ys = drop (i + 1) xs in
+        t.test ∙ ap (good key fits K next) (left xs i d l) ∙ first_good key fits K next x ys
+        ∙ ap (λ (b : Bool). b && good key fits K (key x + 1) ys) h
 
-    -- it passes, and the slot s holds what is entered
-    pub entering-more : {x : A} (s : S) → drop i xs ≡ x ∷ drop (i + 1) xs → good_one pair fits K next x ≡ true → g s ≡ f (pair x).1
-        → Entering pair fits K f g blank xs (i + 1) ((pair x).0 + 1) (set slots (pair x).0 s)
-    unfolding enters_all
-    entering-more {x} s e h q =
-        record {
-          test =
-              t.test ∙ ap (good pair fits K next) e ∙ first_good pair fits K next x (drop (i + 1) xs)
-              ∙ ap (λ (b : Bool). b && good pair fits K ((pair x).0 + 1) (drop (i + 1) xs)) h;
-          made = t.made ∙ rw (e, first-set g K slots (pair x).0 s (good-below pair fits K next x h), q);
-        }
+    module _ {value : A → B} (e : Enters key value enter) where
+      -- it passes, and the slot s holds what is entered
+      pub entering-more : (d : A) (s : S) → i < length xs → (leb next (key (get_or xs i d)) && ltb (key (get_or xs i d)) K) ≡ true → fits (get_or xs i d) ≡ true
+          → g s ≡ value (get_or xs i d) → Entering key fits K enter g blank xs (i + 1) (key (get_or xs i d) + 1) (set slots (key (get_or xs i d)) s)
+      entering-more d s l h f q =
+          let x = get_or xs i d in
+          let ys = drop (i + 1) xs in
+          record {
+            test =
+                t.test ∙ ap (good key fits K next) (left xs i d l) ∙ first_good key fits K next x ys
+                ∙ rw (h, f);
+            made = t.made ∙ rw (left xs i d l, e.next, first-set g K slots (key x) s (good-below key fits K next x h), q);
+          }
 
-    -- there is none left
-    pub entering-end : drop i xs ≡ [] → (good pair fits K 0 xs ≡ true) × (first_of g K slots ≡ enters_all f (replicate K blank) (map pair xs))
-    unfolding all rising enters_all
-    entering-end e = (t.test ∙ ap (good pair fits K next) e, sym (t.made ∙ rw e))
+      -- there is none left
+      pub entering-end : length xs ≤ i → (good key fits K 0 xs ≡ true) × (first_of g K slots ≡ enter (replicate K blank) xs)
+      unfolding all rising
+      entering-end l =
+          let n = none xs i l in
+          (t.test ∙ ap (good key fits K next) n, sym (t.made ∙ rw (n, e.last)))
 
--- ---- Of a secret only its owner is left to test: its dummy is in range
+-- ---- Secrets and entries
 
+pub hides-enters : Enters (λ (s : SecretRecord). s.key) key_of hides
+unfolding hides
+hides-enters = record { last = λ l. refl; next = λ l x xs. refl }
+
+abbrev pub enters : List Entry → List EntryRecord → List Entry
+enters l es = enters_all Number l (map entry_pair es)
+
+pub entries-enter : Enters (λ (e : EntryRecord). e.key) (λ (e : EntryRecord). Number e.value) enters
+unfolding enters_all
+entries-enter = record { last = λ l. refl; next = λ l x xs. refl }
+
+-- of a secret only its owner is left to test: its dummy is in range
 pub secret-fits : (two : Bool) (s : SecretRecord) → SFits w32 s.dummy → secret_fits two s ≡ owner_fits two s.owner
 secret-fits two s h = rw (in-range h) (and-true (owner_fits two s.owner))
 
--- ---- Secrets that are put at their keys
+-- an owner that is there is the one that the number names
+pub owner-there : (b : Bool) {o q : Owner} → Some o ≡ cond b (Some q) None → (b ≡ true) × (o ≡ q)
+owner-there true e = (refl, cc)
+owner-there false e = cc
 
-abbrev pub secret_pair : SecretRecord → ℕ × ℤ
-secret_pair s = (s.key, s.dummy)
-
--- those before i pass and are at their keys in the slots
-pub record Hiding (two : Bool) (K : ℕ) (xs : List SecretRecord) (i next : ℕ) (slots : List KeySlot) : Type 0 where
-  pub test : good secret_pair (secret_fits two) K 0 xs ≡ good secret_pair (secret_fits two) K next (drop i xs)
-  pub made : hides (replicate K Open) xs ≡ hides (first_of key_in K slots) (drop i xs)
-
-module _ {two : Bool} {K : ℕ} where
-  pub hiding-begins : (m : ℕ) {xs : List SecretRecord} → K ≤ m → Hiding two K xs 0 0 (replicate m open_slot)
-  hiding-begins m {xs} h = record { test = refl; made = ap (λ (l : List Key). hides l xs) (sym (first-same key_in K m open_slot h)) }
-
-  module _ {xs : List SecretRecord} {i next : ℕ} {slots : List KeySlot} (t : Hiding two K xs i next slots) where
-    pub hiding-bad : {x : SecretRecord} {ys : List SecretRecord} → drop i xs ≡ x ∷ ys → good_one secret_pair (secret_fits two) K next x ≡ false → good secret_pair (secret_fits two) K 0 xs ≡ false
-    hiding-bad {x} {ys} e h =
-        t.test ∙ ap (good secret_pair (secret_fits two) K next) e ∙ first_good secret_pair (secret_fits two) K next x ys
-        ∙ ap (λ (b : Bool). b && good secret_pair (secret_fits two) K (x.key + 1) ys) h
-
-    pub hiding-more : {x : SecretRecord} (s : KeySlot) → drop i xs ≡ x ∷ drop (i + 1) xs → good_one secret_pair (secret_fits two) K next x ≡ true → key_in s ≡ key_of x
-        → Hiding two K xs (i + 1) (x.key + 1) (set slots x.key s)
-    unfolding hides
-    hiding-more {x} s e h q =
-        record {
-          test =
-              t.test ∙ ap (good secret_pair (secret_fits two) K next) e ∙ first_good secret_pair (secret_fits two) K next x (drop (i + 1) xs)
-              ∙ ap (λ (b : Bool). b && good secret_pair (secret_fits two) K (x.key + 1) (drop (i + 1) xs)) h;
-          made = t.made ∙ rw (e, first-set key_in K slots x.key s (good-below secret_pair (secret_fits two) K next x h), q);
-        }
-
-    pub hiding-end : drop i xs ≡ [] → (good secret_pair (secret_fits two) K 0 xs ≡ true) × (first_of key_in K slots ≡ hides (replicate K Open) xs)
-    unfolding all rising hides
-    hiding-end e = (t.test ∙ ap (good secret_pair (secret_fits two) K next) e, sym (t.made ∙ rw e))
+pub owner-none : (b : Bool) (q : Owner) → None ≡ cond b (Some q) None → b ≡ false
+owner-none true q e = cc
+owner-none false q e = refl

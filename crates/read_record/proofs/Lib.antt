@@ -1,3 +1,3 @@
--- The laws of the readers of a record.
+-- What the loops keep of an array, and the whole record by its parts.
 mod Laws
 mod Whole

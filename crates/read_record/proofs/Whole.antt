@@ -1,19 +1,23 @@
 -- The whole record by its parts.
-use Prim.Native.Nat.{◌≤◌}
-use mathlib.Core.Path.{◌≡◌, refl, sym, ◌∙◌, subst}
-use mathlib.Core.Bool.{Bool, true, false, ◌&&◌, and_assoc, false≢true, true≢false}
+use Prim.Native.Nat.{ℕ, ◌≤◌}
+use mathlib.Core.List.{List, map}
+use mathlib.Core.Path.{◌≡◌, refl, sym, ap, ◌∙◌}
+use mathlib.Core.Bool.{Bool, true, false, ◌&&◌, and_assoc}
 use borrow.Author.Tests.{leb-true}
 use native.Mathlib.Omega.{arith}
 use Rattle.model.proofs.Forms.{every-form-fits}
-use lib.{Dec.leb, ListN.length, ListN.take}
+use lib.{Dec.leb, ListN.length, ListN.take, ListN.length-map, Seq.length-take-le}
 use Rattle.model.specs.{Limits.forms, Form.form_of, Text.between, Stored.key_capacity, Stored.command_capacity, Stored.message_capacity, Stored.letter_capacity, Stored.job_of}
-use Rattle.model.specs.Stored.{nothing_stored}
 use Rattle.model.specs.Accepted.{all}
-use Rattle.model_record.specs.Record.{letter_fits, counts_fit, passes, job_in}
+use Rattle.model_record.specs.Record.{letter_fits, counts_fit, secrets_fit, command_fits, message_fits, passes, job_in}
+use Rattle.model.specs.declared.{Form.Form, Command.Command, KeySlot.KeySlot, MessageLine.MessageLine}
 use Rattle.model_record.specs.declared.JobRecord.{JobRecord}
+use Rattle.read_record.specs.Read.{Hidden, Taken, Lines, Says}
 use Rattle.model_text.proofs.TextLaws.{and_both, between_in}
-use Rattle.read_record.specs.Read.{SecretsTaken, CommandsTaken, MessagesTaken, Takes}
-use Rattle.read_record.specs.declared.{Keys.Keys, Commands.Commands, Messages.Messages, Taken.Taken}
+
+-- the length of a struct's array of structs: what the search is handed of it is the length of the array's values
+pub length-mapped : (X Y : Type 0) (f : X → Y) (l : List X) (n : ℕ) → length (map f l) ≡ n → length l ≡ n
+length-mapped X Y f l n e = sym (length-map l f) ∙ e
 
 -- ---- The counts
 
@@ -57,65 +61,80 @@ few r h =
       letters = omega (arith, (between_in 1 f.letters r.letter_count messages.1).1, fits.letters);
     }
 
--- ---- A record that does not pass
+-- ---- What passes, by the answers of the four readers: the counts, and then the parts from the first to the one that
+-- ---- does not pass, or to the last
 
--- the answer of `refuse`
-pub not_taken : {r : JobRecord} {t : Taken} → passes r ≡ false → t ≡ record { passes = false; job = nothing_stored } → Takes r t
-not_taken {r} h e =
-    subst (Takes r) (sym e) (record {
-      passing = sym h;
-      stored = λ q. absurd (false≢true q);
-      says = λ q. absurd (false≢true q);
-      nothing = λ q. refl;
-      sized = λ q. absurd (false≢true q);
-    })
+abbrev pub Secrets : JobRecord → Bool
+Secrets r = secrets_fit (form_of r.form).owners r.keys (take r.secret_count r.secrets)
 
--- the counts alone do not pass
-pub counts-bad : (r : JobRecord) → counts_fit r ≡ false → passes r ≡ false
-unfolding passes
-counts-bad r h = rw h
+abbrev pub Commands : JobRecord → Bool
+Commands r = all (command_fits r.keys r.command_count) (take r.command_count r.commands)
 
--- ---- A record whose counts pass, by the answers of the four readers
+abbrev pub Messages : JobRecord → Bool
+Messages r = all (message_fits r.keys) (take r.message_count r.messages)
 
--- what they say
-pub record Answers (r : JobRecord) (ks : Keys) (cs : Commands) (ms : Messages) (b : Bool) : Type 0 where
-  pub counts : counts_fit r ≡ true
-  pub secrets : SecretsTaken (form_of r.form).owners r.keys (take r.secret_count r.secrets) ks
-  pub commands : CommandsTaken r.keys r.command_count (take r.command_count r.commands) cs × (r.command_count ≤ length r.commands)
-  pub messages : MessagesTaken r.keys r.message_count (take r.message_count r.messages) ms
-  pub letters : (b ≡ all (letter_fits (form_of r.form)) (take r.letter_count r.letters)) × (r.letter_count ≤ length r.letters)
+abbrev pub Letters : JobRecord → Bool
+Letters r = all (letter_fits (form_of r.form)) (take r.letter_count r.letters)
 
-module _ {r : JobRecord} {ks : Keys} {cs : Commands} {ms : Messages} {b : Bool} (a : Answers r ks cs ms b) where
-  -- it passes if all four do
-  pub four : ks.fit && cs.fit && ms.fit && b ≡ passes r
+-- as the readers test them
+pub secrets-by : (r : JobRecord) {f : Form} {b : Bool} → f ≡ form_of r.form → secrets_fit f.owners r.keys (take r.secret_count r.secrets) ≡ b → Secrets r ≡ b
+secrets-by r e h = sym (ap (λ (f : Form). secrets_fit f.owners r.keys (take r.secret_count r.secrets)) e) ∙ h
+
+pub commands-by : (r : JobRecord) {b : Bool} → r.command_count ≤ length r.commands
+    → all (command_fits r.keys (length (take r.command_count r.commands))) (take r.command_count r.commands) ≡ b → Commands r ≡ b
+commands-by r l h = sym (ap (λ (n : ℕ). all (command_fits r.keys n) (take r.command_count r.commands)) (length-take-le r.command_count r.commands l)) ∙ h
+
+pub letters-by : (r : JobRecord) {f : Form} {fit b : Bool} → f ≡ form_of r.form → fit ≡ all (letter_fits f) (take r.letter_count r.letters) → fit ≡ b → Letters r ≡ b
+letters-by r e q h = sym (q ∙ ap (λ (f : Form). all (letter_fits f) (take r.letter_count r.letters)) e) ∙ h
+
+module _ (r : JobRecord) where
+  pub counts-bad : counts_fit r ≡ false → passes r ≡ false
   unfolding passes
-  four = rw (a.counts, a.secrets.fits, a.commands.0.fits, a.messages.fits, a.letters.0) (simp and_assoc)
+  counts-bad h = rw h
 
-  -- and then it is the job that they give
-  pub taken-whole : ks.fit && cs.fit && ms.fit && b ≡ true
-      → Takes r (record {
-        passes = true;
-        job = record {
-          form = r.form;
-          keys = r.keys;
-          secrets = ks.slots;
-          command_count = r.command_count;
-          commands = cs.commands;
-          message_count = r.message_count;
-          messages = ms.messages;
-          turn_count = r.letter_count;
-          turns = r.letters;
-        };
+  module _ (counts : counts_fit r ≡ true) where
+    pub secrets-bad : Secrets r ≡ false → passes r ≡ false
+    unfolding passes
+    secrets-bad h = rw (counts, h)
+
+    module _ (secrets : Secrets r ≡ true) where
+      pub commands-bad : Commands r ≡ false → passes r ≡ false
+      unfolding passes
+      commands-bad h = rw (counts, secrets, h)
+
+      module _ (commands : Commands r ≡ true) where
+        pub messages-bad : Messages r ≡ false → passes r ≡ false
+        unfolding passes
+        messages-bad h = rw (counts, secrets, commands, h)
+
+        module _ (messages : Messages r ≡ true) where
+          -- the letters decide
+          pub letters-last : passes r ≡ Letters r
+          unfolding passes
+          letters-last = rw (counts, secrets, commands, messages)
+
+-- ---- The job of what passes
+
+module _ {r : JobRecord} {slots : List KeySlot} {commands : List Command} {messages : List MessageLine} where
+  pub whole : (r.command_count ≤ length r.commands) × (r.message_count ≤ length r.messages) × (r.letter_count ≤ length r.letters)
+      → Hidden r.keys (take r.secret_count r.secrets) slots → Taken (take r.command_count r.commands) commands → Lines r.keys (take r.message_count r.messages) messages
+      → Says r (record {
+        form = r.form;
+        keys = r.keys;
+        secrets = slots;
+        command_count = r.command_count;
+        commands = commands;
+        message_count = r.message_count;
+        messages = messages;
+        turn_count = r.letter_count;
+        turns = r.letters;
       })
   unfolding job_of job_in
-  taken-whole q =
-      let three = and_both (ks.fit && cs.fit && ms.fit) b q in
-      let two = and_both (ks.fit && cs.fit) ms.fit three.0 in
-      let one = and_both ks.fit cs.fit two.0 in
+  whole l h t m =
+      let cs = length-take-le r.command_count r.commands l.0 in
+      let ms = length-take-le r.message_count r.messages l.1 in
       record {
-        passing = sym q ∙ four;
-        stored = λ e. record { keys = a.secrets.room; commands = a.commands.0.room; messages = a.messages.room; turns = a.letters.1 };
-        says = λ e. rw (a.secrets.taken one.0, a.commands.0.taken one.1, a.messages.taken two.1);
-        nothing = λ e. absurd (true≢false e);
-        sized = λ e. (a.commands.1, a.letters.1);
+        stored = record { keys = h.room; commands = omega (arith, t.room, cs); messages = omega (arith, m.room, ms); turns = l.2 };
+        says = rw (h.are, rw cs at t.are, rw ms at m.are) refl;
+        sized = (l.0, l.2);
       }

@@ -1,160 +1,101 @@
 // The job that a record says, unless a number, a count, a letter or the order of the keys is not as it must be.
 //
-// A count is tested before anything that it covers is looked at. Tests that do not guard one another are joined by `&`, so that there is no branch between them.
+// A count is tested before anything that it covers is looked at. Tests of one element that do not guard one another are
+// joined by `&`, so that there is no branch between them.
 #![tactic(auto)]
 
-ghost use Rattle.std.specs.Prelude.{◌≡◌, false, ◌≤◌, take, length};
-ghost use Rattle.model.specs.{Stored.key_capacity, Stored.command_capacity, Stored.message_capacity, Stored.nothing_stored};
-ghost use Rattle.model_record.specs.Record.{counts_fit};
-ghost use Rattle.read_record.specs.Read.{SecretsTaken, CommandsTaken, EntriesTaken, MessagesTaken, Takes};
+ghost use Rattle.std.specs.Prelude.{◌≡◌, ◌≤◌, length};
+ghost use Rattle.model.specs.{Stored.key_capacity, Stored.command_capacity, Stored.message_capacity};
+ghost use Rattle.model.specs.Accepted.{all};
+ghost use Rattle.model_record.specs.Record.{counts_fit, secrets_fit, command_fits, message_fits, passes};
+ghost use Rattle.read_record.specs.Read.{Gives, Hidden, Taken, Line, Lines, Said};
 
 use model::{
     COMMAND_CAPACITY, Command, Entry, EntrySlot, FORMS, Form, KEY_CAPACITY, Key, KeySlot,
     MESSAGE_CAPACITY, MessageLine, StoredJob,
 };
-use model_record::{
-    COMMAND_PLACES, CommandRecord, EntryRecord, JobRecord, KEY_PLACES, MESSAGE_PLACES,
-    MessageRecord, SecretRecord,
-};
-use read_fields::{command_fits, command_of, letters_fit, owner_fits, owner_of};
+use model_record::{CommandRecord, JobRecord, MessageRecord, SecretRecord};
+use read_fields::{command_fits, command_of, letters_fit, owner_of};
 
-// Whether what was looked at is as it must be, and what it says then.
-#[derive(Clone, Copy)]
-struct Keys {
-    pub fit: bool,
-    pub slots: [KeySlot; KEY_CAPACITY],
-}
-
-#[derive(Clone, Copy)]
-struct Commands {
-    pub fit: bool,
-    pub commands: [Command; COMMAND_CAPACITY],
-}
-
-#[derive(Clone, Copy)]
-struct Line {
-    pub fit: bool,
-    pub slots: [EntrySlot; KEY_CAPACITY],
-}
-
-#[derive(Clone, Copy)]
-struct Messages {
-    pub fit: bool,
-    pub messages: [MessageLine; MESSAGE_CAPACITY],
-}
-
-// The job counts where the record passes. Where it does not, it is the job whose counts are all 0.
-#[derive(Clone, Copy)]
-pub struct Taken {
-    pub passes: bool,
-    pub job: StoredJob,
-}
-
-fn secrets_of(secrets: [SecretRecord; KEY_PLACES], count: usize, keys: usize, owners: bool) -> Keys
-    requires { (count ≤ keys) × (keys ≤ key_capacity) }
-    ensures { SecretsTaken owners keys (take count secrets) result }
+fn secrets_of(
+    secrets: &[SecretRecord],
+    keys: usize,
+    owners: bool,
+) -> Option<[KeySlot; KEY_CAPACITY]>
+    requires { keys ≤ key_capacity }
+    ensures { Gives (secrets_fit owners keys secrets.now) (Hidden keys secrets.now) result }
 {
     let mut slots = StoredJob::open_keys();
     let mut next: usize = 0;
-    let mut i: usize = 0;
-    while i < count {
-        let s = secrets[i];
+    for s in secrets {
         let key = s.key as usize;
-        let dummy = s.dummy;
-        let known = owner_fits(s.owner, owners);
-        let fits = (next <= key) & (key < keys) & known;
+        let owner = owner_of(s.owner, owners)?;
+        let fits = (next <= key) & (key < keys);
         if !fits {
-            return Keys { fit: false, slots };
+            return None;
         }
-        let owner = owner_of(s.owner);
         slots[key] = KeySlot {
-            key: Key::Secret(owner, dummy),
+            key: Key::Secret(owner, s.dummy),
         };
         next = key + 1;
-        i += 1;
     }
-    Keys { fit: true, slots }
+    Some(slots)
 }
 
-fn commands_of(commands: [CommandRecord; COMMAND_PLACES], count: usize, keys: u32) -> Commands
-    requires { (count ≤ command_capacity) × (1 ≤ keys) × (keys ≤ key_capacity) }
-    ensures { CommandsTaken keys count (take count commands) result × (count ≤ length commands) }
+fn commands_of(commands: &[CommandRecord], keys: u32) -> Option<[Command; COMMAND_CAPACITY]>
+    requires { (length commands.now ≤ command_capacity) × (1 ≤ keys) × (keys ≤ key_capacity) }
+    ensures { Gives (all (command_fits keys (length commands.now)) commands.now) (Taken commands.now) result }
 {
     let mut taken = StoredJob::no_commands();
-    let mut i: usize = 0;
-    while i < count {
-        let c = commands[i];
-        if !command_fits(c, keys, count as u32) {
-            return Commands {
-                fit: false,
-                commands: taken,
-            };
+    let count = commands.len() as u32;
+    for (i, &c) in commands.iter().enumerate() {
+        if !command_fits(c, keys, count) {
+            return None;
         }
         taken[i] = command_of(c);
-        i += 1;
     }
-    Commands {
-        fit: true,
-        commands: taken,
-    }
+    Some(taken)
 }
 
 // The entries of a message, of which there are at most so many as keys: how many is tested before they are looked at.
-fn entries_of(entries: [EntryRecord; KEY_PLACES], count: usize, keys: usize) -> Line
+fn entries_of(message: &MessageRecord, keys: usize) -> Option<MessageLine>
     requires { keys ≤ key_capacity }
-    ensures { EntriesTaken keys count (take count entries) result }
+    ensures { Gives (message_fits keys message.now) (Line keys message.now) result }
 {
-    let mut slots = MessageLine::no_entries();
+    let count = message.entry_count as usize;
     if keys < count {
-        return Line { fit: false, slots };
+        return None;
     }
+    let entries = &message.entries[..count];
+    let mut slots = MessageLine::no_entries();
     let mut next: usize = 0;
-    let mut i: usize = 0;
-    while i < count {
-        let e = entries[i];
+    for e in entries {
         let key = e.key as usize;
-        let value = e.value;
-        let fits = (next <= key) & (key < keys);
-        if !fits {
-            return Line { fit: false, slots };
+        let rises = (next <= key) & (key < keys);
+        if !rises {
+            return None;
         }
         slots[key] = EntrySlot {
-            entry: Entry::Number(value),
+            entry: Entry::Number(e.value),
         };
         next = key + 1;
-        i += 1;
     }
-    Line { fit: true, slots }
+    Some(MessageLine { slots })
 }
 
-fn messages_of(messages: [MessageRecord; MESSAGE_PLACES], count: usize, keys: usize) -> Messages
-    requires { (count ≤ message_capacity) × (keys ≤ key_capacity) }
-    ensures { MessagesTaken keys count (take count messages) result }
+fn messages_of(messages: &[MessageRecord], keys: usize) -> Option<[MessageLine; MESSAGE_CAPACITY]>
+    requires { (length messages.now ≤ message_capacity) × (keys ≤ key_capacity) }
+    ensures { Gives (all (message_fits keys) messages.now) (Lines keys messages.now) result }
 {
     let mut taken = StoredJob::no_messages();
-    let mut i: usize = 0;
-    while i < count {
-        let m = messages[i];
-        let entries = m.entries;
-        let line = entries_of(entries, m.entry_count as usize, keys);
-        if !line.fit {
-            return Messages {
-                fit: false,
-                messages: taken,
-            };
-        }
-        let slots = line.slots;
-        taken[i] = MessageLine { slots };
-        i += 1;
+    for (i, m) in messages.iter().enumerate() {
+        taken[i] = entries_of(m, keys)?;
     }
-    Messages {
-        fit: true,
-        messages: taken,
-    }
+    Some(taken)
 }
 
-fn counts_fit(r: JobRecord) -> bool
-    ensures { result ≡ counts_fit r }
+fn counts_fit(r: &JobRecord) -> bool
+    ensures { result ≡ counts_fit r.now }
 {
     let form = Form::of(r.form as u64);
     (1 <= r.form)
@@ -169,49 +110,33 @@ fn counts_fit(r: JobRecord) -> bool
         & (r.letter_count as usize <= form.letters)
 }
 
-fn refuse() -> Taken
-    ensures { result ≡ record { passes = false; job = nothing_stored } }
+// Any record at all is taken. Its job goes into the caller's: answered by value, it would take 2 KB more of stack.
+pub fn read_record(r: JobRecord, job: &mut StoredJob) -> Option<()>
+    ensures { Gives (passes r) (Said r job.new) result }
 {
-    let job = StoredJob::nothing();
-    Taken { passes: false, job }
-}
-
-// Any record at all is taken.
-pub fn read_record(r: JobRecord) -> Taken
-    ensures { Takes r result }
-{
-    if !counts_fit(r) {
-        return refuse();
+    if !counts_fit(&r) {
+        return None;
     }
     let keys = r.keys as usize;
     let command_count = r.command_count as usize;
     let message_count = r.message_count as usize;
     let turn_count = r.letter_count as usize;
-    let secrets = r.secrets;
-    let commands = r.commands;
-    let messages = r.messages;
-    let turns = r.letters;
     let form = Form::of(r.form as u64);
-    let dummies = secrets_of(secrets, r.secret_count as usize, keys, form.owners);
-    let program = commands_of(commands, command_count, r.keys);
-    let queue = messages_of(messages, message_count, keys);
-    let fit = letters_fit(turns, turn_count, form);
-    if !(dummies.fit & program.fit & queue.fit & fit) {
-        return refuse();
+    let dummies = &r.secrets[..r.secret_count as usize];
+    let program = &r.commands[..command_count];
+    let queue = &r.messages[..message_count];
+    let letters = &r.letters[..turn_count];
+    job.secrets = secrets_of(dummies, keys, form.owners)?;
+    job.commands = commands_of(program, r.keys)?;
+    job.messages = messages_of(queue, keys)?;
+    if !letters_fit(letters, form) {
+        return None;
     }
-    let secrets = dummies.slots;
-    let commands = program.commands;
-    let messages = queue.messages;
-    let job = StoredJob {
-        form: r.form as u64,
-        keys,
-        secrets,
-        command_count,
-        commands,
-        message_count,
-        messages,
-        turn_count,
-        turns,
-    };
-    Taken { passes: true, job }
+    job.form = r.form as u64;
+    job.keys = keys;
+    job.command_count = command_count;
+    job.message_count = message_count;
+    job.turn_count = turn_count;
+    job.turns = r.letters;
+    Some(())
 }

@@ -1,15 +1,13 @@
 -- What the reader's answer says of the reading, for those that call it.
-use Prim.Native.Nat.{ℕ}
-use mathlib.Core.Path.{◌≡◌, sym, ap, ◌∙◌}
-use Rattle.model.specs.{Stored.job_of, Sheet.Reading, Sheet.accepted, Sheet.refused}
-use Rattle.read_sheet.specs.Sheet.{status_as, Answers}
-use Rattle.read_sheet.specs.declared.{Read.Read, Status.Status}
-use Rattle.read_sheet.specs.declared.Status.TheVariants.{Got, Refused}
+use Rattle.std.proofs.Common.{◌≡◌, sym, Ok, Err}
+use Rattle.model.specs.{Refusal.number_of, Stored.job_of, Sheet.Reading, Sheet.accepted, Sheet.refused}
+use Rattle.model.specs.declared.{StoredJob.StoredJob, Fault.Fault}
+use Rattle.read_sheet.specs.Sheet.{Answers}
 
 -- of the reading x
-module _ {x : Reading} {r : Read} (a : Answers x r) where
-  pub read-accepted : r.status ≡ Got → x ≡ accepted (job_of r.job)
-  read-accepted e = sym a.reading ∙ ap (λ (t : Status). status_as t (job_of r.job)) e
+module _ {x : Reading} where
+  pub read-accepted : {j : StoredJob} → Answers x (Ok j) → x ≡ accepted (job_of j)
+  read-accepted a = sym a.reading
 
-  pub read-refused : (n l : ℕ) → r.status ≡ Refused n l → x ≡ refused n l
-  read-refused n l e = sym a.reading ∙ ap (λ (t : Status). status_as t (job_of r.job)) e
+  pub read-refused : {e : Fault} → Answers x (Err e) → x ≡ refused (number_of e.refusal) e.line
+  read-refused a = sym a.reading

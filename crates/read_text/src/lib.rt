@@ -2,25 +2,10 @@
 #![tactic(auto)]
 
 ghost use Rattle.std.specs.Prelude.{◌≡◌, ◌<◌};
-ghost use Rattle.model.specs.{Text.find, Number.digits_to, Number.up_to, Number.from_one, Number.negative, Number.positive, Number.number};
-ghost use Rattle.read_text.specs.Text.{natural_as, whole_as};
+ghost use Rattle.model.specs.{Text.find, Number.digits_to, Number.up_to, Number.from_one, Number.negative, Number.positive, Number.number, Refusal.parsed};
 ghost use Rattle.model_text.specs.Found.{starts};
 
-use model::{GREATEST_NUMBER, LEAST_NUMBER};
-
-// A number from 0 to a limit, or the number of its refusal.
-#[derive(Clone, Copy)]
-pub enum Natural {
-    Got(u64),
-    Refused(u32),
-}
-
-// A number of the full range, or the number of its refusal.
-#[derive(Clone, Copy)]
-pub enum Whole {
-    Got(i32),
-    Refused(u32),
-}
+use model::{GREATEST_NUMBER, LEAST_NUMBER, Refusal};
 
 // The place of the first c, or the length where there is none. Two bytes at a time: most of a sheet's bytes are passed here.
 // Called and not inlined, for the read-only memory: it stands at many places.
@@ -47,118 +32,86 @@ pub fn find_byte(s: &[u8], c: u8) -> usize
     i
 }
 
+// The library's test of a prefix would take 1.7 KB more of the run's read-only memory, which has a bound.
 pub fn starts_with(t: &[u8], p: &[u8]) -> bool
     ensures { result ≡ starts p.now t.now }
 {
     if t.len() < p.len() {
         return false;
     }
-    let mut i = 0;
-    while i < p.len() {
-        if t[i] != p[i] {
+    for (i, &b) in p.iter().enumerate() {
+        if t[i] != b {
             return false;
         }
-        i += 1;
     }
     true
 }
 
-pub fn wide(x: u8) -> u64
-    ensures { result ≡ x }
-{
-    x as u64
-}
-
 // The value of digits, at most m. It stops at the first digit that takes it past m, so that no length of text overflows.
-fn digits_up_to(s: &[u8], m: u64) -> Natural
+fn digits_up_to(s: &[u8], m: u64) -> Result<u64, Refusal>
     requires { m < 4294967296 }
-    ensures { natural_as result ≡ digits_to m 0 s.now }
+    ensures { parsed result ≡ digits_to m 0 s.now }
 {
     let mut a: u64 = 0;
-    let mut i = 0;
-    while i < s.len() {
-        let b = s[i];
-        if b < b'0' {
-            return Natural::Refused(4);
+    for &b in s {
+        if b < b'0' || b'9' < b {
+            return Err(Refusal::BadNumber);
         }
-        if b'9' < b {
-            return Natural::Refused(4);
-        }
-        a = a * 10 + wide(b - b'0');
+        a = a * 10 + u64::from(b - b'0');
         if m < a {
-            return Natural::Refused(4);
+            return Err(Refusal::BadNumber);
         }
-        i += 1;
     }
-    Natural::Got(a)
+    Ok(a)
 }
 
 // A number from 0 to m.
-pub fn up_to(s: &[u8], m: u64) -> Natural
+pub fn up_to(s: &[u8], m: u64) -> Result<u64, Refusal>
     requires { m < 4294967296 }
-    ensures { natural_as result ≡ up_to m s.now }
+    ensures { parsed result ≡ up_to m s.now }
 {
-    if s.len() == 0 {
-        return Natural::Refused(4);
+    if s.is_empty() {
+        return Err(Refusal::BadNumber);
     }
-    if s.len() == 1 {
-        return digits_up_to(s, m);
-    }
-    if s[0] == b'0' {
-        return Natural::Refused(4);
+    if 1 < s.len() && s[0] == b'0' {
+        return Err(Refusal::BadNumber);
     }
     digits_up_to(s, m)
 }
 
 // A number from 1 to m.
-pub fn from_one(s: &[u8], m: u64) -> Natural
+pub fn from_one(s: &[u8], m: u64) -> Result<u64, Refusal>
     requires { m < 4294967296 }
-    ensures { natural_as result ≡ from_one m s.now }
+    ensures { parsed result ≡ from_one m s.now }
 {
-    match up_to(s, m) {
-        Natural::Got(n) => {
-            if n == 0 {
-                Natural::Refused(4)
-            } else {
-                Natural::Got(n)
-            }
-        }
-        Natural::Refused(r) => Natural::Refused(r),
+    let n = up_to(s, m)?;
+    if n == 0 {
+        return Err(Refusal::BadNumber);
     }
+    Ok(n)
 }
 
 // What follows a minus sign.
-fn negative_of(s: &[u8]) -> Whole
-    ensures { whole_as result ≡ negative s.now }
+fn negative_of(s: &[u8]) -> Result<i32, Refusal>
+    ensures { parsed result ≡ negative s.now }
 {
-    match up_to(s, LEAST_NUMBER) {
-        Natural::Got(n) => {
-            if n == 0 {
-                Whole::Refused(4)
-            } else {
-                let z = n as i64;
-                Whole::Got((0 - z) as i32)
-            }
-        }
-        Natural::Refused(r) => Whole::Refused(r),
-    }
+    let n = from_one(s, LEAST_NUMBER)?;
+    Ok((0 - n as i64) as i32)
 }
 
-fn positive_of(s: &[u8]) -> Whole
-    ensures { whole_as result ≡ positive s.now }
+fn positive_of(s: &[u8]) -> Result<i32, Refusal>
+    ensures { parsed result ≡ positive s.now }
 {
-    match up_to(s, GREATEST_NUMBER) {
-        Natural::Got(n) => Whole::Got(n as i32),
-        Natural::Refused(r) => Whole::Refused(r),
-    }
+    let n = up_to(s, GREATEST_NUMBER)?;
+    Ok(n as i32)
 }
 
 // A number of the full range.
-pub fn number_of(s: &[u8]) -> Whole
-    ensures { whole_as result ≡ number s.now }
+pub fn number_of(s: &[u8]) -> Result<i32, Refusal>
+    ensures { parsed result ≡ number s.now }
 {
-    if s.len() == 0 {
-        return Whole::Refused(4);
+    if s.is_empty() {
+        return Err(Refusal::BadNumber);
     }
     if s[0] == b'-' {
         return negative_of(&s[1..]);

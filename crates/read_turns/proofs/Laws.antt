@@ -14,10 +14,11 @@ use Rattle.model.specs.declared.Owner.TheVariants.{A, B}
 use Rattle.model_text.specs.Found.{Word}
 use Rattle.model_text.proofs.{TextLaws.uncons, TextLaws.done, LineLaws.lines_none, LineLaws.lines_more}
 use Rattle.read_line.specs.Phase.{Reads}
-use Rattle.read_line.specs.declared.Phase.TheVariants.{Got, Refused}
+use Rattle.std.specs.Prelude.{Ok, Err}
+use Rattle.model.specs.declared.{Fault.Fault, Refusal.TheVariants.Misplaced}
 use Rattle.model.proofs.Stored.{map_more}
 use Rattle.model.specs.Form.{third_of}
-use Rattle.read_turns.specs.Turns.{LetterKnown}
+use Rattle.read_turns.specs.Turns.{LetterKnown, turns_in}
 
 pub turns-word : Word (bytes "turns") (116 ∷ 117 ∷ 114 ∷ 110 ∷ 115 ∷ 61 ∷ [])
 unfolding bytes free
@@ -130,19 +131,19 @@ module _ (f : Form) (s : List ℕ) where
 abbrev pub the_line : Form → ℕ → List (List ℕ) → Phase (List Level)
 the_line f n ls = one (bytes "turns") (turns_line f) n ls
 
-module _ (f : Form) {s : List ℕ} {first : ℕ} where
-  pub last-refused : {r n : ℕ} {x : List Level} → Reads (the_line f) s first (Refused r n) x → Reads (read_turns f) s first (Refused r n) x
+module _ (f : Form) (bs : List ℕ) {s : List ℕ} {first : ℕ} where
+  pub last-refused : {e : Fault} → Reads (the_line f) (turns_in bs) s first (Err e) → Reads (read_turns f) (turns_in bs) s first (Err e)
   unfolding read_turns
   last-refused h = record { read = ap nothing_after h.read; ahead = tt }
 
-  module _ {n b : ℕ} {x : List Level} (h : Reads (the_line f) s first (Got n b) x) (t : List ℕ) (d : t ≡ drop b s) (e : ℕ) (q : e ≡ find line_feed t) where
-    pub last_more : e < length t → Reads (read_turns f) s first (Refused 3 n) x
+  module _ {n b : ℕ} {x : ℕ} (h : Reads (the_line f) (turns_in bs) s first (Ok (x, record { line = n; at = b }))) (t : List ℕ) (d : t ≡ drop b s) (e : ℕ) (q : e ≡ find line_feed t) where
+    pub last_more : e < length t → Reads (read_turns f) (turns_in bs) s first (Err (record { refusal = Misplaced; line = n }))
     unfolding read_turns
     last_more l =
         let m : find line_feed t < length t = omega arith in
         record { read = rw (← h.read, ← d, lines_more t m); ahead = tt }
 
-    pub last_none : length t ≤ e → Reads (read_turns f) s first (Got n b) x
+    pub last_none : length t ≤ e → Reads (read_turns f) (turns_in bs) s first (Ok (x, record { line = n; at = b }))
     unfolding read_turns
     last_none l =
         let m : length t ≤ find line_feed t = omega arith in

@@ -4,34 +4,32 @@
 // sheet does not depend on whether the answer can be said.
 #![tactic(auto)]
 
-use input::Text;
+use input::{Program, TextError};
 use model::MOST_BYTES;
 use model_sheet::LONGEST_SHEET;
 use std::io;
 
+const RESAVE: Program<'static> = Program {
+    name: "resave",
+    text: "sheet",
+    arguments: "[SHEET]",
+};
+
 const READ_BYTES: usize = MOST_BYTES + 1;
 
-fn complain(rt: &impl Eprint, what: &str) -> io::Result<()> {
-    eprintln!(rt; "resave: {what}")
-}
-
-fn save(rt: &HostRuntime, sheet: &[u8]) -> io::Result<()> {
+fn main(rt: HostRuntime) -> io::Result<()> {
+    let mut sheet = [0u8; READ_BYTES];
+    let n = match input::text_argument(&rt, &mut sheet, 1) {
+        Ok(n) => n,
+        Err(TextError::TooLong) => READ_BYTES,
+        Err(why) => return RESAVE.complain(&rt, why),
+    };
     let mut output = [0u8; LONGEST_SHEET];
     let (_, printed) = show_record::resave_and_print(
-        sheet,
+        &sheet[..n],
         &mut output,
         &mut rt.stdout(),
         &mut rt.stderr(),
     );
     printed.text
-}
-
-fn main(rt: HostRuntime) -> io::Result<()> {
-    let mut sheet = [0u8; READ_BYTES];
-    match input::text_argument(&rt, &mut sheet, 1) {
-        Text::Got(n) => save(&rt, &sheet[..n]),
-        Text::TooLong => save(&rt, &sheet),
-        Text::Failed => complain(&rt, "the sheet could not be read"),
-        Text::Misused => complain(&rt, "usage: resave [SHEET]"),
-    }
 }

@@ -1,56 +1,67 @@
--- Bounds on the integers that the machine's signed operations ask, what `clamp` and `computed` are in each of their cases, and one law for
--- every operation that is done at `i64` and then computed. Assumes nothing.
-use mathlib.Core.Path.{◌≡◌, refl, ap, ◌∙◌}
-use mathlib.Core.Bool.{Bool, true, false, not, cond, true≢false}
-use Prim.Native.Nat.{ℕ, zero, suc, ◌+◌, ◌*◌, ◌/◌, ◌^◌, ◌≤◌, ◌<◌}
-use native.Mathlib.{Nat.mul-le-mul, Nat.div-le_self, Nat.sub-le, Nat.le_refl, Nat.le-suc, Nat.le_trans, Nat.lt_of_le_of_lt, Omega.arith}
-use lib.{IntN.ℤ, IntN.pos, IntN.negsuc, IntN.neg_ℤ, IntN.sub_ℕ, IntN.◌+ℤ◌, IntN.◌-ℤ◌, IntN.◌*ℤ◌, Dec.T, Dec.ltb, Dec.lit<, Signed.mag, Signed.lt_z, Signed.quot_z}
-use borrow.Author.Tests.{ltb-false}
-use mir.{Syntax.w32, Syntax.w64, Val.SFits, Val.to_z, Val.of_z, Facts.sfits_widen, Facts.to_z-of_z}
-use Rattle.model.specs.{Limits.greatest_number, Number.is_zero}
+-- Bounds on the integers that the machine's signed operations ask, what std's `clamp` and `computed` are, and one law
+-- for every operation that is done at `i64` and then computed. Assumes nothing.
+use mathlib.Core.Path.{◌≡◌, refl, sym, ap, ap₂, ◌∙◌}
+use mathlib.Core.Bool.{Bool, true, false, not, cond}
+use Prim.Native.Nat.{ℕ, suc, ◌/◌, ◌^◌, ◌≤◌, ◌<◌}
+use native.Mathlib.{Nat.div-le_self, Omega.arith}
+use lib.{IntN.ℤ, IntN.pos, IntN.negsuc, IntN.◌+ℤ◌, IntN.◌-ℤ◌, IntN.◌*ℤ◌, Dec.eqb, Dec.lit<, Signed.◌≤ℤ◌, Signed.mag, Signed.lt_z, Signed.quot_z}
+use borrow.Author.Rules.{rules}
+use borrow.Author.Differences.{fits_in}
+use borrow.Author.Tests.{eqb-true, eqb-false}
+use mir.{Val.bool_byte, Syntax.w32, Syntax.w64, Val.SFits, Val.to_z, Val.of_z, Facts.to_z-of_z}
+use Rattle.std.specs.Int.{int_max, int_min}
+use Rattle.std.proofs.lemmas.Int.{ints, fits_signed_mul}
+use Rattle.model.specs.{Number.is_zero}
 use Rattle.model_run.specs.{Arith.clamp, Arith.outside, Arith.clamps_by, Arith.computed, Arith.quotient, Arith.by_zero, Arith.least, Arith.greatest}
 use Rattle.model.specs.declared.Computed.{Computed}
-use Rattle.model_run.proofs.Clamped.{mag-negpos}
-
--- a cast to a wider signed type
-module _ {z : ℤ} (fits : SFits w32 z) where
-  pub widens : SFits w64 (to_z w32 (of_z w32 z))
-  widens = rw (to_z-of_z fits) (sfits_widen tt fits)
-
-  pub widened : to_z w64 (of_z w64 (to_z w32 (of_z w32 z))) ≡ z
-  widened = rw (to_z-of_z fits) (to_z-of_z {w = w64} (sfits_widen tt fits))
+use Rattle.model_run.proofs.Clamped.{mag-negpos, tells-within, tells-beyond}
 
 -- what a call returned, read back from its bits
 pub returned : {r z : ℤ} → mag r < 2 ^ 31 → r ≡ z → to_z w32 (of_z w32 r) ≡ z
 returned ok e = to_z-of_z {w = w32} (record { sfits = ok }) ∙ e
 
--- how large a sum, a difference, a product and a quotient can be
-cond_ind : (c : Bool) (x y : ℤ) (P : ℤ → Type 0) → (T c → P x) → (T (not c) → P y) → P (cond c x y)
-cond_ind true x y P f g = f tt
-cond_ind false x y P f g = g tt
+-- ---- The range
 
-mag-subℕ : (a b : ℕ) → mag (sub_ℕ a b) ≤ a + b
-mag-subℕ a b = cond_ind (ltb a b) _ _ (λ z. mag z ≤ a + b) (λ t. omega arith) (λ t. omega arith)
+-- std's `clamp` to the range is the definition's
+clamped-is : (z : ℤ) → int_max least (int_min z greatest) ≡ clamp z
+unfolding clamp
+clamped-is z = go (lt_z z least) (lt_z greatest z) refl refl
+  where
+    go : (below above : Bool) → lt_z z least ≡ below → lt_z greatest z ≡ above
+        → int_max least (int_min z greatest) ≡ cond (lt_z z least) least (cond (lt_z greatest z) greatest z)
+    go true true h k = absurd (grind (arith, ints))
+    go true false h k = simp (h, k)
+    go false true h k = simp (h, k)
+    go false false h k = simp (h, k)
 
-mag-neg : (z : ℤ) → mag (neg_ℤ z) ≤ suc (mag z)
-mag-neg (pos zero) = omega arith
-mag-neg (pos (suc n)) = omega arith
-mag-neg (negsuc n) = omega arith
+-- the value that is stored tells whether the exact result lay outside; the machine compares the two by their bits
+module _ {x v : ℤ} {n : ℕ} (f : SFits w64 x) (low : least ≤ℤ v) (high : v ≤ℤ greatest) where
+  module _ (ev : v ≡ int_max least (int_min (to_z w64 (of_z w64 x)) greatest)) (en : n ≡ bool_byte (not (eqb (of_z w64 v) (of_z w64 x)))) where
+    value-is : v ≡ clamp x
+    value-is = ev ∙ ap (λ (z : ℤ). int_max least (int_min z greatest)) (to_z-of_z f) ∙ clamped-is x
 
-mag-add : (a b : ℤ) → mag (a +ℤ b) ≤ suc (mag a + mag b)
-mag-add (pos a) (pos b) = omega arith
-mag-add (pos a) (negsuc b) = omega (arith, mag-subℕ a (suc b))
-mag-add (negsuc a) (pos b) = omega (arith, mag-subℕ b (suc a))
-mag-add (negsuc a) (negsuc b) = omega arith
+    fits : SFits w32 v
+    fits = search (rules, ints)
 
-mag-sub : (a b : ℤ) → mag (a -ℤ b) ≤ suc (suc (mag a + mag b))
-mag-sub a b = omega (arith, mag-add a (neg_ℤ b), mag-neg b)
+    wider : SFits w64 v
+    wider = search (rules, ints)
 
-mag-mul : (a b : ℤ) → mag (a *ℤ b) ≤ suc (mag a) * suc (mag b)
-mag-mul (pos a) (pos b) = mul-le-mul (omega arith) (omega arith)
-mag-mul (pos a) (negsuc b) = le_trans (le_trans (mag-negpos (a * suc b)) (sub-le (a * suc b) 1)) (mul-le-mul (le-suc a) (le_refl (suc b)))
-mag-mul (negsuc a) (pos b) = le_trans (le_trans (mag-negpos (suc a * b)) (sub-le (suc a * b) 1)) (mul-le-mul (le_refl (suc a)) (le-suc b))
-mag-mul (negsuc a) (negsuc b) = le_refl _
+    clamps-is : n ≡ clamps_by (outside x)
+    clamps-is = go (eqb (of_z w64 v) (of_z w64 x)) refl
+      where
+        go : (t : Bool) → eqb (of_z w64 v) (of_z w64 x) ≡ t → n ≡ clamps_by (outside x)
+        go true h =
+            let same : v ≡ x = sym (to_z-of_z wider) ∙ ap (to_z w64) (eqb-true _ _ h) ∙ to_z-of_z f in
+            en ∙ ap (λ (t : Bool). bool_byte (not t)) h ∙ ap clamps_by (sym (tells-within x (sym value-is ∙ same)))
+        go false h =
+            en ∙ ap (λ (t : Bool). bool_byte (not t)) h
+            ∙ ap clamps_by (sym (tells-beyond x (λ same. eqb-false _ _ h (ap (of_z w64) (value-is ∙ same)))))
+
+    pub computed-is : record { value = to_z w32 (of_z w32 (to_z w64 (of_z w64 v))); clamps = n } ≡ computed x
+    unfolding computed
+    computed-is = ap₂ (λ (z : ℤ) (m : ℕ). record { value = z; clamps = m }) (ap (λ (z : ℤ). to_z w32 (of_z w32 z)) (to_z-of_z wider) ∙ to_z-of_z fits ∙ value-is) clamps-is
+
+-- ---- The operations
 
 mag-quot : (a b : ℤ) → mag (quot_z a b) ≤ suc (mag a)
 mag-quot (pos a) (pos b) = omega (arith, div-le_self a b)
@@ -61,75 +72,31 @@ mag-quot (negsuc a) (negsuc b) = omega (arith, div-le_self (suc a) (suc b))
 -- of two numbers of the range, each fits an `i64`
 module _ {a b : ℤ} (fa : SFits w32 a) (fb : SFits w32 b) where
   pub add-fits : SFits w64 (a +ℤ b)
-  add-fits = record { sfits = omega (arith, mag-add a b) }
+  add-fits = fits_in w64 (a +ℤ b) (omega (arith, ints))
 
   pub sub-fits : SFits w64 (a -ℤ b)
-  sub-fits = record { sfits = omega (arith, mag-sub a b) }
+  sub-fits = fits_in w64 (a -ℤ b) (omega (arith, ints))
 
   pub mul-fits : SFits w64 (a *ℤ b)
-  mul-fits = record { sfits = lt_of_le_of_lt (le_trans (mag-mul a b) (mul-le-mul fa.sfits fb.sfits)) (lit< tt) }
+  mul-fits = fits_signed_mul w64 a b 2147483648 2147483648 (omega (arith, ints)) (omega (arith, ints)) (lit< tt)
 
   pub quot_fits : SFits w64 (quot_z a b)
   quot_fits = record { sfits = omega (arith, mag-quot a b) }
 
--- a number of the range, cast to `i64`; what is computed there, and then clamped
-abbrev wide : ℤ → ℤ
-wide z = to_z w64 (of_z w64 (to_z w32 (of_z w32 z)))
+-- what is computed of the exact result, where x and y are a and b at `i64`
+operand : {a x : ℤ} → SFits w32 a → x ≡ to_z w32 (of_z w32 a) → to_z w64 (of_z w64 x) ≡ a
+operand fa ex = ap (λ (z : ℤ). to_z w64 (of_z w64 z)) (ex ∙ to_z-of_z fa) ∙ to_z-of_z {w = w64} (search (rules, ints))
 
-module _ (op : ℤ → ℤ → ℤ) {a b : ℤ} (fa : SFits w32 a) (fb : SFits w32 b) (fits : SFits w64 (op a b)) where
-  operands : op (wide a) (wide b) ≡ op a b
-  operands = rw (widened fa, widened fb)
+pub answered : (op : ℤ → ℤ → ℤ) {a b x y : ℤ} → SFits w32 a → SFits w32 b → x ≡ to_z w32 (of_z w32 a) → y ≡ to_z w32 (of_z w32 b) → SFits w64 (op a b)
+    → {r : Computed} → r ≡ computed (to_z w64 (of_z w64 (op (to_z w64 (of_z w64 x)) (to_z w64 (of_z w64 y))))) → r ≡ computed (op a b)
+answered op fa fb ex ey fits e =
+    e ∙ ap computed (ap₂ (λ (u v : ℤ). to_z w64 (of_z w64 (op u v))) (operand fa ex) (operand fb ey) ∙ to_z-of_z {w = w64} fits)
 
-  pub asked : SFits w64 (op (wide a) (wide b))
-  asked = rw operands fits
-
-  -- what is computed of the exact result
-  pub answered : {r : Computed} → r ≡ computed (to_z w64 (of_z w64 (op (wide a) (wide b)))) → r ≡ computed (op a b)
-  answered e = e ∙ ap computed (ap (λ (z : ℤ). to_z w64 (of_z w64 z)) operands ∙ to_z-of_z {w = w64} fits)
-
--- the cases of `clamp`
-pub clamp-low : (z : ℤ) → lt_z z least ≡ true → least ≡ clamp z
-unfolding clamp
-clamp-low z h = simp h
-
-pub clamp-high : (z : ℤ) → lt_z z least ≡ false → lt_z greatest z ≡ true → greatest ≡ clamp z
-unfolding clamp
-clamp-high z h k = simp (h, k)
-
-pub clamp-in : (z : ℤ) → lt_z z least ≡ false → lt_z greatest z ≡ false → z ≡ clamp z
-unfolding clamp
-clamp-in z h k = simp (h, k)
-
--- what is computed, once it is known whether the exact result lies outside
-pub computed-is : (z : ℤ) (t : Bool) → outside z ≡ t → record { value = clamp z; clamps = clamps_by t } ≡ computed z
-unfolding computed
-computed-is z t h = simp h
-
-pub in-fits : (z : ℤ) → lt_z z least ≡ false → lt_z greatest z ≡ false → SFits w32 z
-in-fits (pos n) h k = record { sfits = omega (arith, ltb-false greatest_number n k) }
-in-fits (negsuc n) h k = record { sfits = omega (arith, ltb-false greatest_number n h) }
-
--- a divisor's bits are 0 where it is 0, and only there
-pub bits-zero : (b : ℤ) → SFits w32 b → of_z w32 b ≡ 0 → is_zero b ≡ true
-bits-zero (pos zero) f e = refl
-bits-zero (pos (suc n)) f e = absurd (omega arith)
-bits-zero (negsuc n) f e = absurd (omega arith)
-
-pub bits-nonzero : (b : ℤ) → (of_z w32 b ≡ 0 → ⊥) → is_zero b ≡ false
-bits-nonzero (pos zero) h = absurd (h refl)
-bits-nonzero (pos (suc n)) h = refl
-bits-nonzero (negsuc n) h = refl
-
-pub wide-bits : (b : ℤ) → SFits w32 b → is_zero b ≡ false → 0 < of_z w64 b
-wide-bits (pos zero) f e = absurd (true≢false e)
-wide-bits (pos (suc n)) f e = omega arith
-wide-bits (negsuc n) f e = omega arith
-
--- the cases of `quotient`
-pub div-by-zero : (a b : ℤ) → is_zero b ≡ true → by_zero ≡ quotient a b
+-- the cases of `quotient`: a divisor's bits are 0 where it is 0, and only there
+pub div-by-zero : (a b : ℤ) → SFits w32 b → of_z w32 b ≡ 0 → by_zero ≡ quotient a b
 unfolding quotient
-div-by-zero a b e = simp e
+div-by-zero a b f h = let e : is_zero b ≡ true = grind (arith, ints) in simp e
 
-pub div-by : (a b : ℤ) → is_zero b ≡ false → computed (quot_z a b) ≡ quotient a b
+pub div-by : (a b : ℤ) → SFits w32 b → (of_z w32 b ≡ 0 → ⊥) → computed (quot_z a b) ≡ quotient a b
 unfolding quotient
-div-by a b e = simp e
+div-by a b f h = let e : is_zero b ≡ false = grind (arith, ints) in simp e

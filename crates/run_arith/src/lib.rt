@@ -1,8 +1,9 @@
-// The arithmetic of the commands: i32 through i64, so that every result is exact before it is clamped. Each says whether that lay outside the range.
+// The arithmetic of the commands: i32 through i64, so that every result is exact before it is clamped. Each says
+// whether that lay outside the range.
 #![tactic(auto)]
 
 ghost use Rattle.std.specs.Prelude.{◌≡◌};
-ghost use Rattle.model_run.specs.Arith.{clamp as Arith·clamp, computed as Arith·computed, sum, difference, product, quotient};
+ghost use Rattle.model_run.specs.Arith.{computed as Arith·computed, sum, difference, product, quotient};
 
 use model::{Computed, GREATEST_NUMBER, LEAST_NUMBER};
 
@@ -11,46 +12,34 @@ const LEAST: i64 = 0 - LEAST_NUMBER as i64;
 
 const GREATEST: i64 = GREATEST_NUMBER as i64;
 
-// The number of the range that is nearest to x.
-fn clamp(x: i64) -> i32
-    ensures { result ≡ Arith·clamp x }
-{
-    if x < LEAST {
-        return LEAST as i32;
-    }
-    if GREATEST < x {
-        return GREATEST as i32;
-    }
-    x as i32
-}
-
-// What is stored of the exact result x, and whether that is another number: then x lay outside the range.
+// What is stored of the exact result x, and 1 if that is another number, else 0: then x lay outside the range. A number
+// and no flag, as the definition has it, since it is added: with a flag a run took a fifth more instructions.
 fn computed(x: i64) -> Computed
     ensures { result ≡ Arith·computed x }
 {
-    let value = clamp(x);
-    if value as i64 == x {
-        return Computed { value, clamps: 0 };
+    let value = x.clamp(LEAST, GREATEST);
+    Computed {
+        value: value as i32,
+        clamps: usize::from(value != x),
     }
-    Computed { value, clamps: 1 }
 }
 
 pub fn add(a: i32, b: i32) -> Computed
     ensures { result ≡ sum a b }
 {
-    computed(a as i64 + b as i64)
+    computed(i64::from(a) + i64::from(b))
 }
 
 pub fn sub(a: i32, b: i32) -> Computed
     ensures { result ≡ difference a b }
 {
-    computed(a as i64 - b as i64)
+    computed(i64::from(a) - i64::from(b))
 }
 
 pub fn mul(a: i32, b: i32) -> Computed
     ensures { result ≡ product a b }
 {
-    computed(a as i64 * b as i64)
+    computed(i64::from(a) * i64::from(b))
 }
 
 // Cut toward zero, as the machine's division is; a zero divisor gives 0, which is no clamped result.
@@ -63,5 +52,5 @@ pub fn div(a: i32, b: i32) -> Computed
             clamps: 0,
         };
     }
-    computed(a as i64 / b as i64)
+    computed(i64::from(a) / i64::from(b))
 }

@@ -2,33 +2,38 @@
 -- output memory. A turn enters by what it leaves (`Turned`), of whatever kind it is.
 use Prim.Native.Nat.{ℕ, ◌+◌, ◌-◌, ◌*◌, ◌<◌, ◌≤◌}
 use mathlib.Core.Path.{◌≡◌, refl, sym, ap, ap₂, subst, ◌∙◌}
-use mathlib.Core.Bool.{Bool, false}
+use mathlib.Core.Bool.{Bool, false, cond}
 use mathlib.Core.List.{List, [], ◌∷◌, ◌++◌, append_assoc}
 use native.Mathlib.{Omega.arith, Nat.zero-add, Nat.mul-le-mul}
-use lib.{Dec.leb, Dec.ltb, ListN.length, ListN.get_or, ListN.drop, ListN.replicate}
-use borrow.Author.Tests.{lt-leb, le-leb}
+use lib.{Dec.leb, Dec.ltb, ListN.length, ListN.get_or, ListN.drop, ListN.length-set, ListN.replicate}
+use borrow.Author.Tests.{lt-leb, le-leb, lt-ltb, le-ltb}
 use Rattle.model.specs.{Execution.begun, Stored.level_of, Stored.job_of, Stored.held, Stored.key_capacity, Stored.message_capacity, Stored.letter_capacity}
 use Rattle.model_run.specs.{Step.call_of, Line.Sent, Line.line_length, Line.line_bytes, Line.bytes_of, Line.memory_after, Process.Process, Process.command, Process.stopped}
-use Rattle.model_run.specs.{Process.fresh, State.role, State.started, State.ticked, State.State, State.process, Verdict.GoesOn, Verdict.Ends, Verdict.Verdict}
+use Rattle.model_run.specs.{Process.fresh, Message.received, State.Role, State.follows, State.role, State.started, State.ticked, State.State, State.process, Verdict.GoesOn, Verdict.Ends, Verdict.Verdict}
 use Rattle.model_run.specs.{Verdict.short, Verdict.all_used, Verdict.lacking, Verdict.no_room, Verdict.verdict_by, Verdict.verdict, Run.turn, Run.ended, Run.run_by}
 use Rattle.model_run.specs.{Run.run, Run.initial, Run.run_job_by, Run.run_job, Whole.left, Whole.left_by}
 use Rattle.model_run.specs.State as State
 use Rattle.model.specs.declared.{Entry.TheVariants.Absent, Field.Field, Key.Key, Command.Command, Level.Level, Execution.Execution, Clock.Clock}
-use Rattle.model.specs.declared.{Ending.Ending, Answer.Answer, Answer.TheVariants.Ended, StoredJob.StoredJob}
-use Rattle.model.specs.declared.Ending.TheVariants.{Stopped, LettersUsed}
+use Rattle.model.specs.declared.{Call.Call, Ended.Ended, Ending.Ending, StoredJob.StoredJob}
+use Rattle.model.specs.declared.Ending.TheVariants.{Stopped, LettersUsed, NoRoom}
 use Rattle.model.specs.declared.Call.TheVariants.{Neither, Receives, Sends}
+use Rattle.model.specs.declared.Owner.{Owner}
 use Rattle.model.specs.declared.Owner.TheVariants.{A, B}
 use Rattle.model.specs.declared.Level.TheVariants.{Low, High}
-use Rattle.model_run.proofs.{Line.bytes-length, Counted.Reached, Counted.reached-first, Counted.turn-reached, Turn.turn-clock, Turn.Counter, Turn.clamped}
+use Rattle.model_run.proofs.{Line.bytes-length, Counted.Reached, Counted.reached-first, Counted.turn-reached, Turn.turn-clock, Turn.Counter, Turn.calls, Turn.clamped}
 use Rattle.run_message.specs.Message.{Cleared}
 use Rattle.run_message.proofs.Laws.{cleared-held}
 use Rattle.run_verdict.specs.Verdict.{CountsFit, counts_as}
-use Rattle.model.specs.Placed.{placed}
+use Rattle.model.specs.{Answer.ended_as, Placed.placed}
 use Rattle.model.proofs.Placed.{placed-nil, placed-append, placed-length, placed-front}
 use Rattle.model.proofs.Ready.{Ready, few, keys-count, lines-count, program-count}
 use Rattle.run_job.specs.{Held.Held, Held.record_of, Held.process_of, Held.state_of, Turn.Turned, Turn.letters_left, Turn.found_before}
 use Rattle.run_job.proofs.Views.{letters-go-on, letters-end}
-use Rattle.run_job.proofs.Turn.{command_of, process-is, command-here}
+use Rattle.run_job.specs.Held.{with_taken, with_message, with_bytes}
+use Rattle.run_job.specs.Command.{Moved, command_at, moved_by, followed_by}
+use Rattle.run_job.proofs.Turn.{command_of, process-is, command-here, moved_on, called_by, follow-turn, receive-turn, send-turn, command-turn}
+use Rattle.write_line.specs.Line.{columns_in, line_of}
+use Rattle.model.specs.Execution.{called_of}
 
 bytes-append : (xs ys : List Sent) → bytes_of (xs ++ ys) ≡ bytes_of xs ++ bytes_of ys
 unfolding bytes_of
@@ -72,7 +77,7 @@ module _ {j : StoredJob} (ok : Ready j) where
   abbrev cs : List Command
   cs = (job_of j).commands
 
-  pub begins : (out₀ : List ℕ) (low a b : Execution) (message : List Field) (kinds : List ℕ) (clock : Clock) → low ≡ begun → a ≡ begun → b ≡ begun → Cleared message → clock ≡ started
+  pub begins : (out₀ : List ℕ) (low a b : Execution) (message : List Field) (kinds : List Call) (clock : Clock) → low ≡ begun → a ≡ begun → b ≡ begun → Cleared message → clock ≡ started
       → Kept j out₀ (record { low = low; a = a; b = b; message = message; kinds = kinds; taken = 0; bytes = 0; clock = clock }) out₀
   unfolding run_job_by bytes_of state_of initial fresh
   begins out₀ low a b message kinds clock el ea eb em ec =
@@ -156,10 +161,11 @@ module _ {j : StoredJob} (ok : Ready j) where
     found = found_before j (length out₀) k.sent h
 
     -- an ending
-    pub ends : (e : Ending) → found ≡ Ends e → (a : Answer) → a ≡ Ended e (counts_as h.clock h.bytes h.taken h.low.clamped) → left a out ≡ left_by out₀ (run_job (job_of j) (length out₀))
+    pub ends : (e : Ending) → found ≡ Ends e → (r : Ended) → r ≡ record { ending = e; counts = counts_as h.clock h.bytes h.taken h.low.clamped }
+        → left (ended_as r) out ≡ left_by out₀ (run_job (job_of j) (length out₀))
     unfolding ended state_of memory_after State.at
-    ends e v a ea =
-        ap₂ left ea (k.memory ∙ placed-front out₀ (bytes_of k.sent) (omega (arith, long, room)))
+    ends e v r er =
+        ap₂ left (ap ended_as er) (k.memory ∙ placed-front out₀ (bytes_of k.sent) (omega (arith, long, room)))
         ∙ ap (left_by out₀) (sym (settled ks cs (length out₀) here (letters_left j h) e v) ∙ k.going)
 
     low-is : process Low here ≡ process_of j.keys h Low
@@ -234,9 +240,146 @@ module _ {j : StoredJob} (ok : Ready j) where
 
 -- ---- What the loop keeps
 
--- besides, the arrays are as long as they were, and the low execution has not stopped: that is tested after each of its turns
-pub record Inv (j : StoredJob) (out₀ : List ℕ) (h : Held) (out : List ℕ) : Type 0 where
+-- besides, the arrays are as long as they were, the low execution has not stopped, which is tested after each of its turns,
+-- and the positions used are those before the next
+pub record Inv (j : StoredJob) (out₀ : List ℕ) (h : Held) (out : List ℕ) (at : ℕ) : Type 0 where
   pub kept : Kept j out₀ h out
   pub full : length h.message ≡ key_capacity
   pub noted : length h.kinds ≡ letter_capacity
   pub live : h.low.place < j.command_count
+  pub here : h.clock.positions ≡ at
+
+-- the record of a call, of which the place and the count are stored
+pub stored-call : (x : Execution) {next : Execution} → next ≡ called_of x → record { place = next.place; vars = x.vars; calls = next.calls; clamped = x.clamped } ≡ called_of x
+stored-call x e = ap (λ (y : Execution). record { place = y.place; vars = x.vars; calls = y.calls; clamped = x.clamped }) e
+
+-- the same after a turn of the low level, of which it is not asked yet whether it stopped
+pub record Led (j : StoredJob) (out₀ : List ℕ) (h : Held) (out : List ℕ) (at : ℕ) : Type 0 where
+  pub kept : Kept j out₀ h out
+  pub full : length h.message ≡ key_capacity
+  pub noted : length h.kinds ≡ letter_capacity
+  pub here : h.clock.positions ≡ at
+
+module _ {j : StoredJob} (ok : Ready j) {out₀ : List ℕ} {h : Held} {out : List ℕ} {at : ℕ} where
+  pub goes-on : Led j out₀ h out at → h.low.place < j.command_count → Inv j out₀ h out at
+  goes-on i live = record { kept = i.kept; full = i.full; noted = i.noted; live = live; here = i.here }
+
+  pub fits : Led j out₀ h out at → CountsFit h.clock h.bytes h.taken h.low.clamped
+  fits i = counts-fit ok i.kept
+
+  -- it stopped
+  pub stops : Led j out₀ h out at → j.command_count ≤ h.low.place → (r : Ended) → r ≡ record { ending = Stopped; counts = counts_as h.clock h.bytes h.taken h.low.clamped }
+      → left (ended_as r) out ≡ left_by out₀ (run_job (job_of j) (length out₀))
+  stops i end = ends ok i.kept Stopped (found-stopped ok i.kept end)
+
+  module _ (i : Inv j out₀ h out at) where
+    pub led : Led j out₀ h out at
+    led = record { kept = i.kept; full = i.full; noted = i.noted; here = i.here }
+
+    abbrev bounds : Small ok i.kept
+    bounds = small ok i.kept
+
+    pub ticks : (h.clock.positions < 4294967296) × (h.clock.steps < 4294967296)
+    ticks = (omega (arith, bounds.positions), omega (arith, bounds.steps))
+
+    pub place-small : h.low.place < 4294967296
+    place-small = omega (arith, i.live, (few ok).commands)
+
+    pub calls-small : (l : Level) → (record_of l h).calls < 4294967296
+    unfolding calls
+    calls-small l = counted-small ok i.kept calls l
+
+    pub clamped-small : (l : Level) → (record_of l h).clamped < 4294967296
+    unfolding clamped
+    clamped-small l = counted-small ok i.kept clamped l
+
+    -- the letters are used
+    pub runs-out : j.turn_count ≤ at → (r : Ended) → r ≡ record { ending = LettersUsed; counts = counts_as h.clock h.bytes h.taken h.low.clamped }
+        → left (ended_as r) out ≡ left_by out₀ (run_job (job_of j) (length out₀))
+    runs-out end = ends ok i.kept LettersUsed (found-used ok i.kept i.live (omega (arith, i.here)))
+
+    -- ---- A turn of the level whose letter is next
+
+    module _ (more : at < j.turn_count) where
+      abbrev left-over : h.clock.positions < j.turn_count
+      left-over = omega (arith, i.here)
+
+      -- a call more has its place in the array of kinds
+      pub kinds-inside : (l : Level) → (record_of l h).calls < length h.kinds
+      unfolding calls
+      kinds-inside l = omega (arith, bounds.counts calls l, left-over, (few ok).letters, i.noted)
+
+      module _ {l : Level} (turn-is : level_of (get_or j.turns at 0) ≡ l) where
+        level-is : level_of (get_or j.turns h.clock.positions 0) ≡ l
+        level-is = ap (λ (n : ℕ). level_of (get_or j.turns n 0)) i.here ∙ turn-is
+
+        next : (c : Clock) → c ≡ ticked l h.clock → c.positions ≡ at + 1
+        next c ec = omega (arith, ap (λ (d : Clock). d.positions) ec, i.here)
+
+        follows-on : role l ≡ follows → {t : Moved} → t ≡ followed_by j l (record_of l h) h.message h.low.calls h.kinds → {c : Clock} → c ≡ ticked l h.clock
+            → Kept j out₀ (moved_on l t c h) out
+        follows-on f {t} et {c} ec =
+            again ok i.kept i.live left-over l level-is (ap (λ (r : Role). lacking r (call_of (command_of ok i.kept.sent h Low).op) (length out - h.bytes) (10 + 12 * j.keys)) f)
+            (follow-turn ok i.kept.sent h l f t et c ec out)
+
+      -- of an owner
+      pub after-follow : (o : Owner) → level_of (get_or j.turns at 0) ≡ High o → {t : Moved} → t ≡ followed_by j (High o) (record_of (High o) h) h.message h.low.calls h.kinds
+          → length t.message ≡ length h.message → {c : Clock} → c ≡ ticked (High o) h.clock → Inv j out₀ (moved_on (High o) t c h) out (at + 1)
+      after-follow A turn-is et size {c} ec =
+          record { kept = follows-on turn-is refl et ec; full = size ∙ i.full; noted = i.noted; live = i.live; here = next turn-is c ec }
+      after-follow B turn-is et size {c} ec =
+          record { kept = follows-on turn-is refl et ec; full = size ∙ i.full; noted = i.noted; live = i.live; here = next turn-is c ec }
+
+      module _ (turn-is : level_of (get_or j.turns at 0) ≡ Low) where
+        abbrev in_hand : Command
+        in_hand = command_at j.commands h.low.place
+
+        passes : {k : Call} → call_of in_hand.op ≡ k → short k (length out - h.bytes) (10 + 12 * j.keys) ≡ false
+            → {h' : Held} {out' : List ℕ} → Turned j Low i.kept.sent h h' out out' → Kept j out₀ h' out'
+        passes {k} call roomy t =
+            again ok i.kept i.live left-over Low (level-is turn-is) (ap (λ (k : Call). short k (length out - h.bytes) (10 + 12 * j.keys)) call ∙ roomy) t
+
+        pub after-receive : call_of in_hand.op ≡ Receives → {m : List Field} → ((l : Level) → held j.keys m l ≡ received (job_of j).keys (drop h.taken (job_of j).messages) l)
+            → length m ≡ length h.message → {n : ℕ} → n ≡ cond (ltb h.taken j.message_count) (h.taken + 1) h.taken
+            → {x : Execution} → x ≡ called_of h.low → {c : Clock} → c ≡ ticked Low h.clock
+            → Led j out₀ (called_by Receives x c (with_taken n (with_message m h))) out (at + 1)
+        after-receive call {m} em size {n} en {x} ex {c} ec =
+            record {
+              kept = passes call (short-receives _ _) (receive-turn ok i.kept.sent h i.live (kinds-inside Low) c ec x ex call m em n en out);
+              full = size ∙ i.full;
+              noted = simp length-set i.noted;
+              here = next turn-is c ec;
+            }
+
+        -- there is no room for a send's line
+        pub no-room : call_of in_hand.op ≡ Sends → length out - h.bytes < 10 + 12 * j.keys
+            → (r : Ended) → r ≡ record { ending = NoRoom; counts = counts_as h.clock h.bytes h.taken h.low.clamped }
+            → left (ended_as r) out ≡ left_by out₀ (run_job (job_of j) (length out₀))
+        no-room call lacks =
+            let full = ap (λ (k : Call). short k (length out - h.bytes) (10 + 12 * j.keys)) call ∙ short-sends _ _ ∙ lt-ltb _ _ lacks in
+            ends ok i.kept NoRoom (found-by ok i.kept i.live left-over Low (level-is turn-is) ∙ ap (verdict_by false false) full)
+
+        pub after-send : call_of in_hand.op ≡ Sends → 10 + 12 * j.keys ≤ length out - h.bytes
+            → {out' : List ℕ} → out' ≡ placed out h.bytes (line_bytes (line_of at (columns_in j.keys j.secrets h.message)))
+            → {x : Execution} → x ≡ called_of h.low → {c : Clock} → c ≡ ticked Low h.clock
+            → Led j out₀ (called_by Sends x c (with_bytes (h.bytes + (10 + 12 * j.keys)) h)) out' (at + 1)
+        after-send call room {out'} eo {x} ex {c} ec =
+            record {
+              kept =
+                  passes call (short-sends _ _ ∙ le-ltb _ _ room)
+                  (send-turn ok i.kept.sent h i.live (kinds-inside Low) c ec x ex call _ refl out out'
+                  (eo ∙ ap (λ (n : ℕ). placed out h.bytes (line_bytes (line_of n (columns_in j.keys j.secrets h.message)))) (sym i.here)));
+              full = i.full;
+              noted = simp length-set i.noted;
+              here = next turn-is c ec;
+            }
+
+        pub after-command : call_of in_hand.op ≡ Neither → {t : Moved} → t ≡ moved_by j.command_count in_hand Low h.low h.message → {c : Clock} → c ≡ ticked Low h.clock
+            → Led j out₀ (moved_on Low t c h) out (at + 1)
+        after-command call {t} et {c} ec =
+            record {
+              kept = passes call (short-neither _ _) (command-turn ok i.kept.sent h Low i.live call t et c ec out);
+              full = ap (λ (u : Moved). length u.message) et ∙ simp length-set i.full;
+              noted = i.noted;
+              here = next turn-is c ec;
+            }

@@ -1,29 +1,26 @@
 -- One turn on what a run holds: a law for a command at either level, one for an idle turn, one for each call. None speaks of the rest of the run.
 use Prim.Native.Nat.{ℕ, suc, ◌+◌, ◌*◌, ◌<◌, ◌≤◌}
-use mathlib.Core.Path.{◌≡◌, refl, sym, ap, ap₂, ◌∙◌}
+use mathlib.Core.Path.{◌≡◌, refl, sym, ap, ap₂, subst, ◌∙◌}
 use mathlib.Core.Bool.{Bool, true, false, cond}
 use mathlib.Core.List.{List, [], ◌∷◌, ◌++◌, append-nil}
 use native.Mathlib.{Nat.add-zero, Numerals.add-one, Omega.arith, Decide.dec_lt}
-use lib.{IntN.ℤ, Dec.ltb, Dec.leb, ListN.length, ListN.get_or, ListN.drop, ListN.set, ListN.drop_of_length-le, Seq.drop-cons}
+use lib.{Dec.ltb, Dec.leb, ListN.length, ListN.get_or, ListN.drop, ListN.set, ListN.take, ListN.length-take, ListN.get_or-eq_default, ListN.drop_of_length-le, Seq.drop-cons, Seq.get_or-take, Seq.take-suc-set}
 use borrow.Author.Tests.{lt-ltb, le-ltb, lt-leb, le-leb}
-use Rattle.model_run.specs.{Step.variable, Step.effect_of, Step.Stepped, Step.stepped_by, Step.does, Step.call_of, Line.Sent, Line.line_length, Line.line_bytes}
+use Rattle.model_run.specs.{Step.Stepped, Step.does, Step.call_of, Line.Sent, Line.line_length, Line.line_bytes}
 use Rattle.model_run.specs.{Line.bytes_of, Process.Process, Process.entry, Process.stored, Process.step, Process.command, Process.stopped, Process.refill, State.Role}
 use Rattle.model_run.specs.{State.leads, State.follows, State.role, State.put, State.each, State.taken_of, State.takes, State.sends, State.ticked, State.State}
 use Rattle.model_run.specs.{State.process, State.fields_of, State.with_process, Message.source, Message.received, Message.receive, Message.columns, Message.line_now}
 use Rattle.model_run.specs.{Message.send, Verdict.kind_at, Verdict.waits, Verdict.idles, Run.waits_at, Run.counted, Run.turn}
-use Rattle.model.specs.{Execution.after_of, Execution.called_of, Execution.calls_by, Stored.keys_in, Stored.entries_in, Stored.side, Stored.with_side, Stored.held}
-use Rattle.model.specs.{Stored.absent_field, Stored.kind_of, Stored.kinds_in, Stored.job_of}
+use Rattle.model.specs.{Execution.called_of, Execution.calls_by, Stored.side, Stored.with_side, Stored.held}
+use Rattle.model.specs.{Stored.absent_field, Stored.kinds_in, Stored.job_of}
 use Rattle.model_run.specs.State as State
-use Rattle.model.specs.declared.{Entry.Entry, Entry.TheVariants.Absent, Effect.Effect, Field.Field, Key.Key, Command.Command, Call.Call, Level.Level, Execution.Execution}
-use Rattle.model.specs.declared.{Clock.Clock, MessageLine.MessageLine, StoredJob.StoredJob}
+use Rattle.model.specs.declared.{Entry.Entry, Entry.TheVariants.Absent, Field.Field, Key.Key, Command.Command, Call.Call, Level.Level, Execution.Execution}
+use Rattle.model.specs.declared.{Clock.Clock, StoredJob.StoredJob}
 use Rattle.model.specs.declared.Call.TheVariants.{Neither, Receives, Sends}
 use Rattle.model.specs.declared.Owner.TheVariants.{A, B}
 use Rattle.model.specs.declared.Level.TheVariants.{Low, High}
 use Rattle.model_run.proofs.{Levels.leads-not-follows}
-use Rattle.model.proofs.{Stored.map_more, Stored.map_at}
 use Rattle.model_run.proofs.Turn.{Alone, idles_at, call_at, turn_alone, turn-idle, turn-receive, turn-send}
-use Rattle.run_step.proofs.Laws.{changed_by, changed-is}
-use Rattle.run_message.specs.Message.{received_by}
 use Rattle.run_message.proofs.Laws.{held-set, held_same}
 use Rattle.model.specs.Placed.{placed}
 use Rattle.write_line.specs.Line.{columns_in, line_of}
@@ -32,7 +29,8 @@ use Rattle.model.proofs.Ready.{Ready, keys-count, lines-count, program-count}
 use Rattle.write_line.proofs.Laws.{held_at}
 use Rattle.run_job.specs.{Held.Held, Held.record_of, Held.with_record, Held.with_message, Held.with_kinds, Held.with_taken, Held.with_bytes, Held.with_clock, Held.process_of}
 use Rattle.run_job.specs.{Held.state_of, Turn.Turned}
-use Rattle.run_job.proofs.Views.{command_at, command-is, operands-at, received_is}
+use Rattle.run_job.specs.Command.{Moved, command_at, moved_by, made_before, followed_by}
+use Rattle.run_job.proofs.Views.{command-is, operands-at}
 
 columns-same : (i : ℕ) (ks : List Key) (f g : Level → List Entry) → ((l : Level) → f l ≡ g l) → columns i ks f ≡ columns i ks g
 unfolding columns
@@ -40,18 +38,23 @@ columns-same i [] f g e = refl
 columns-same i (k ∷ ks) f g e =
     ap₂ (λ (x : Entry) (xs : List Entry). x ∷ xs) (ap (λ (l : List Entry). get_or l i Absent) (e (source k))) (columns-same (suc i) ks f g e)
 
--- what is held after a command of a level's execution: its record x, its entry e at the key k, and the clock
-abbrev pub commanded : Level → Execution → ℕ → Field → Clock → Held → Held
-commanded l x k f c h = with_clock c (with_record l x (with_message (set h.message k f) h))
+-- of the first n kinds the one at a place
+take_at : (n : ℕ) (kinds : List Call) (i : ℕ) → get_or (take n kinds) i Neither ≡ made_before i n kinds
+take_at n kinds i = go (dec_lt i n)
+  where
+    go : Dec (i < n) → get_or (take n kinds) i Neither ≡ made_before i n kinds
+    go (yes b) = get_or-take n kinds i Neither b ∙ sym (rw (lt-ltb _ _ b))
+    go (no b) =
+        let end : n ≤ i = omega arith in
+        get_or-eq_default (take n kinds) Neither (omega (arith, length-take n kinds)) ∙ sym (rw (le-ltb _ _ end))
 
--- the kind of the leader's call number j of the n that it has made, as the code has it
-abbrev pub made_before : ℕ → ℕ → List ℕ → Call
-made_before j n bs = cond (ltb j n) (kind_of (get_or bs j 0)) Neither
+-- what is held with another record of a level's execution, another message and another clock
+abbrev pub moved_on : Level → Moved → Clock → Held → Held
+moved_on l t c h = with_clock c (with_record l t.execution (with_message t.message h))
 
--- after a call of the leader, of the kind that the byte b stands for, which changed of the record only the place and the count of calls
-abbrev pub called_by : ℕ → Execution → Clock → Held → Held
-called_by b next c h =
-    with_clock c (with_record Low (record { place = next.place; vars = h.low.vars; calls = next.calls; clamped = h.low.clamped }) (with_kinds (set h.kinds h.low.calls b) h))
+-- after a call of the leader of this kind, with its next record
+abbrev pub called_by : Call → Execution → Clock → Held → Held
+called_by k next c h = with_clock c (with_record Low next (with_kinds (set h.kinds h.low.calls k) h))
 
 module _ {j : StoredJob} (ok : Ready j) (sent : List Sent) (h : Held) where
   abbrev ks : List Key
@@ -95,7 +98,7 @@ module _ {j : StoredJob} (ok : Ready j) (sent : List Sent) (h : Held) where
   changed l y k e = counted l (with_process l (record { execution = y; fields = set (held j.keys h.message l) k e }) here)
 
   changed-is-held : (l : Level) (y : Execution) (k : ℕ) (f : Field) (c : Clock) (e : Entry) → k < j.keys → f ≡ with_side l e (get_or h.message k absent_field) → c ≡ ticked l h.clock
-      → SameCalls l y → changed l y k e ≡ state_of j sent (commanded l y k f c h)
+      → SameCalls l y → changed l y k e ≡ state_of j sent (moved_on l (record { execution = y; message = set h.message k f }) c h)
   unfolding state_of State.put
   changed-is-held Low y k f c e below ef ec same =
       let own = held-set j.keys h.message Low k f below ∙ ap (λ (g : Field). set (held j.keys h.message Low) k (side Low g)) ef in
@@ -142,23 +145,23 @@ module _ {j : StoredJob} (ok : Ready j) (sent : List Sent) (h : Held) where
       call-here = ap (λ (c : Command). call_of c.op) command-here
 
       -- elsewhere, whether it waits is all that idling asks
-      pub waits-here : x.calls < length h.kinds → idles_at ks cs here l ≡ waits (call_of command_of.op) (made_before x.calls h.low.calls h.kinds)
+      pub waits-here : idles_at ks cs here l ≡ waits (call_of command_of.op) (made_before x.calls h.low.calls h.kinds)
       unfolding idles stopped waits_at state_of
-      waits-here inside =
+      waits-here =
           let going : stopped cs (process l here) ≡ false = ap (λ (p : Process). leb (length cs) p.execution.place) (process-is l) ∙ lt-leb (length cs) x.place (omega (arith, program-count ok)) in
           ap₂ (λ (b : Bool) (p : Process). idles b (waits (call_at ks cs here l) (kind_at here.kinds p.execution.calls))) going (process-is l)
-          ∙ ap₂ waits call-here (map_at kind_of h.low.calls h.kinds x.calls 0 Neither inside)
+          ∙ ap₂ waits call-here (take_at h.low.calls h.kinds x.calls)
 
       -- ---- A command
 
       -- as the code tests it: the leader's command is no call, and another does not wait at it
       abbrev pub Free : Role → Type 0
       Free leads = call_of command_of.op ≡ Neither
-      Free follows = (x.calls < length h.kinds) × (waits (call_of command_of.op) (made_before x.calls h.low.calls h.kinds) ≡ false)
+      Free follows = waits (call_of command_of.op) (made_before x.calls h.low.calls h.kinds) ≡ false
 
       alone : (r : Role) → Free r → Alone ks cs here r l
       alone leads e = call-here ∙ e
-      alone follows e = waits-here e.0 ∙ e.1
+      alone follows e = waits-here ∙ e
 
       no_call : (r : Role) → role l ≡ r → Free r → role l ≡ leads → call_of command_of.op ≡ Neither
       no_call leads e f g = f
@@ -178,46 +181,71 @@ module _ {j : StoredJob} (ok : Ready j) (sent : List Sent) (h : Held) where
           ∙ ap₂ (λ (n : ℕ) (d : Entry). stored p command_of.k (does n command_of x d)) (program-count ok) found
           ∙ ap (stored p command_of.k) (sym er)
 
-      -- the effect of the command in hand, put into the record where it changes, and the entry into the level's field: k, v, w are its operands, a and b
-      -- what its variables hold, i its kind, and z the value that comes from the next record
-      pub command-turn : Free (role l) → (k v w : ℕ) → k ≡ command_of.k → v ≡ command_of.v → w ≡ command_of.w
-          → (a b : ℤ) → a ≡ variable x v → b ≡ variable x w → (e : Entry) → e ≡ side l (get_or h.message k absent_field)
-          → (r : Effect) → r ≡ effect_of command_of x.place a b e x.clamped j.command_count
-          → (i : Call) → i ≡ call_of command_of.op → (next : Execution) → next ≡ after_of x v i r → (z : ℤ) → z ≡ variable next v
-          → (f : Field) → f ≡ with_side l r.entry (get_or h.message k absent_field) → (c : Clock) → c ≡ ticked l h.clock → (m : List ℕ)
-          → Turned j l sent h (commanded l (changed_by x v z next) k f c h) m m
+      pub command-turn : Free (role l) → (t : Moved) → t ≡ moved_by j.command_count command_of l x h.message → (c : Clock) → c ≡ ticked l h.clock → (m : List ℕ)
+          → Turned j l sent h (moved_on l t c h) m m
       unfolding does
-      command-turn free k v w ek ev ew a b ea eb e ee r er i ei next enext z ez f ef c ec m =
-          let whole : Stepped = stepped_by x v i r in
-          let effect : ℤ → ℤ → Effect = λ p q. effect_of command_of x.place p q e x.clamped j.command_count in
-          let effect_is : r ≡ effect (variable x command_of.v) (variable x command_of.w) = er ∙ ap₂ effect (ea ∙ ap (variable x) ev) (eb ∙ ap (variable x) ew) in
-          let does-is : whole ≡ does j.command_count command_of x e =
-          ap₂ (λ (o : ℕ) (g : Effect). stepped_by x o i g) ev effect_is
-          ∙ ap (λ (o : Call). stepped_by x command_of.v o (effect (variable x command_of.v) (variable x command_of.w))) ei in
-          let record_is : changed_by x v z next ≡ whole.execution = changed-is x v i r next z enext ez in
-          let entry-is = ee ∙ ap (λ (o : ℕ). side l (get_or h.message o absent_field)) ek in
+      command-turn free t et c ec m =
+          let k = command_of.k in
+          let f : Field = get_or h.message k absent_field in
+          let s : Stepped = does j.command_count command_of x (side l f) in
           still l _ m
           (turn_alone ks cs here l (alone (role l) free)
-          ∙ ap (λ (p : Process). counted l (with_process l p here)) (step-here e entry-is whole does-is)
-          ∙ ap₂ (λ (q : Execution) (o : ℕ). changed l q o r.entry) (sym record_is) (sym ek)
-          ∙ changed-is-held l (changed_by x v z next) k f c r.entry (omega (arith, key_below)) ef ec
-          (calls-kept l (call_of command_of.op) (no_call (role l) refl free) (changed_by x v z next)
-          (ap (λ (q : Execution). q.calls) enext ∙ ap (λ (o : Call). x.calls + calls_by o) ei)))
+          ∙ ap (λ (p : Process). counted l (with_process l p here)) (step-here (side l f) refl s refl)
+          ∙ changed-is-held l s.execution k (with_side l s.entry f) c s.entry key_below refl ec (calls-kept l (call_of command_of.op) (no_call (role l) refl free) s.execution refl)
+          ∙ ap (λ (u : Moved). state_of j sent (moved_on l u c h)) (sym et))
+
+    -- ---- A turn of an execution that follows
+
+    -- all is as it was
+    stays : with_record l x (with_message h.message h) ≡ h
+    stays = same l
+      where
+        same : (i : Level) → with_record i (record_of i h) (with_message h.message h) ≡ h
+        same Low = refl
+        same (High A) = refl
+        same (High B) = refl
+
+    abbrev same : Moved
+    same = record { execution = x; message = h.message }
+
+    abbrev moved : Moved
+    moved = moved_by j.command_count command_of l x h.message
+
+    pub follow-turn : role l ≡ follows → (t : Moved) → t ≡ followed_by j l x h.message h.low.calls h.kinds → (c : Clock) → c ≡ ticked l h.clock → (m : List ℕ)
+        → Turned j l sent h (moved_on l t c h) m m
+    follow-turn f t et c ec m = go (dec_lt x.place j.command_count)
+      where
+        idle : t ≡ same → idles_at ks cs here l ≡ true → Turned j l sent h (moved_on l t c h) m m
+        idle e i =
+            subst (λ (g : Held). Turned j l sent h g m m) (ap (with_clock c) (sym stays) ∙ ap (λ (u : Moved). moved_on l u c h) (sym e)) (idle-turn f i c ec m)
+
+        free : (live : x.place < j.command_count) (r : Role) → r ≡ follows → waits (call_of command_of.op) (made_before x.calls h.low.calls h.kinds) ≡ false → Free live r
+        free live leads e w = absurd (leads-not-follows e)
+        free live follows e w = w
+
+        go : Dec (x.place < j.command_count) → Turned j l sent h (moved_on l t c h) m m
+        go (no b) =
+            let end : j.command_count ≤ x.place = omega arith in
+            idle (et ∙ (rw (le-leb _ _ end))) (ends-idle end)
+        go (yes live) = waiting (waits (call_of command_of.op) (made_before x.calls h.low.calls h.kinds)) refl
+          where
+            going : t ≡ cond (waits (call_of command_of.op) (made_before x.calls h.low.calls h.kinds)) same moved
+            going = et ∙ (rw (lt-leb _ _ live))
+
+            waiting : (b : Bool) → waits (call_of command_of.op) (made_before x.calls h.low.calls h.kinds) ≡ b → Turned j l sent h (moved_on l t c h) m m
+            waiting true w = idle (going ∙ ap (λ (b : Bool). cond b same moved) w) (waits-here live ∙ w)
+            waiting false w = command-turn live (free live (role l) f w) t (going ∙ ap (λ (b : Bool). cond b same moved) w) c ec m
 
   -- ---- The leader's calls
-
-  -- the record of a call, of which the place and the count are stored
-  called_is : (next : Execution) → next ≡ called_of h.low → record { place = next.place; vars = h.low.vars; calls = next.calls; clamped = h.low.clamped } ≡ called_of h.low
-  called_is next e = ap (λ (y : Execution). record { place = y.place; vars = h.low.vars; calls = y.calls; clamped = h.low.clamped }) e
 
   module _ (live : h.low.place < j.command_count) (inside : h.low.calls < length h.kinds)
       (c : Clock) (ec : c ≡ ticked Low h.clock) (next : Execution) (enext : next ≡ called_of h.low) where
     -- one kind more
-    kind-more : (b : ℕ) (k : Call) → kind_of b ≡ k → kinds_in next.calls (set h.kinds h.low.calls b) ≡ kinds_in h.low.calls h.kinds ++ (k ∷ [])
-    kind-more b k e =
-        ap (λ (y : Execution). kinds_in y.calls (set h.kinds h.low.calls b)) enext
-        ∙ map_more kind_of h.low.calls h.kinds b inside
-        ∙ ap (λ (i : Call). kinds_in h.low.calls h.kinds ++ (i ∷ [])) e
+    kind-more : (k : Call) → kinds_in next.calls (set h.kinds h.low.calls k) ≡ kinds_in h.low.calls h.kinds ++ (k ∷ [])
+    kind-more k =
+        ap (λ (y : Execution). kinds_in y.calls (set h.kinds h.low.calls k)) enext
+        ∙ ap (λ (n : ℕ). take n (set h.kinds h.low.calls k)) (add-one h.low.calls)
+        ∙ take-suc-set h.kinds h.low.calls k inside
 
     abbrev lines : ℕ
     lines = j.message_count
@@ -241,25 +269,24 @@ module _ {j : StoredJob} (ok : Ready j) (sent : List Sent) (h : Held) where
             let past : length ms ≤ h.taken = omega (arith, lines-count ok) in
             rw (none, drop_of_length-le ms past)
 
-    pub receive-turn : (b : ℕ) → kind_of b ≡ Receives → call_of (command_of Low).op ≡ Receives → (i : ℕ) (d : MessageLine) → i ≡ cond (ltb h.taken lines) h.taken 0
-        → (m' : List Field) → ((l : Level) → held j.keys m' l ≡ received_by j.keys (keys_in j.keys j.secrets) (ltb h.taken lines) (entries_in j.keys (get_or j.messages i d)) l)
+    pub receive-turn : call_of (command_of Low).op ≡ Receives → (m' : List Field) → ((l : Level) → held j.keys m' l ≡ received ks (drop h.taken (job_of j).messages) l)
         → (n : ℕ) → n ≡ cond (ltb h.taken lines) (h.taken + 1) h.taken → (m : List ℕ)
-        → Turned j Low sent h (called_by b next c (with_taken n (with_message m' h))) m m
+        → Turned j Low sent h (called_by Receives next c (with_taken n (with_message m' h))) m m
     unfolding state_of receive State.noted takes State.each State.put State.at refill
-    receive-turn b eb is i d ei m' em n en m =
-        let fields : (l : Level) → received ks (drop h.taken (job_of j).messages) l ≡ held j.keys m' l = λ l. sym (em l ∙ received_is ok l h.taken i d ei) in
-        still Low _ m (turn-receive ks cs here (call-here Low live ∙ is) ∙ rw (fields Low, fields (High A), fields (High B), took n en, ← kind-more b Receives eb, ← ec, ← called_is next enext))
+    receive-turn is m' em n en m =
+        let fields : (l : Level) → received ks (drop h.taken (job_of j).messages) l ≡ held j.keys m' l = λ l. sym (em l) in
+        still Low _ m (turn-receive ks cs here (call-here Low live ∙ is) ∙ rw (fields Low, fields (High A), fields (High B), took n en, ← kind-more Receives, ← ec, ← enext))
 
-    pub send-turn : (b : ℕ) → kind_of b ≡ Sends → call_of (command_of Low).op ≡ Sends → (n : ℕ) → n ≡ 10 + 12 * j.keys
+    pub send-turn : call_of (command_of Low).op ≡ Sends → (n : ℕ) → n ≡ 10 + 12 * j.keys
         → (m m' : List ℕ) → m' ≡ placed m h.bytes (line_bytes (line_of h.clock.positions (columns_in j.keys j.secrets h.message)))
-        → Turned j Low sent h (called_by b next c (with_bytes (h.bytes + n) h)) m m'
+        → Turned j Low sent h (called_by Sends next c (with_bytes (h.bytes + n) h)) m m'
     unfolding state_of send State.noted sends line_now bytes_of line_length State.put State.at job_of
-    send-turn b eb is n en m m' em =
+    send-turn is n en m m' em =
         let line = line_of h.clock.positions (columns_in j.keys j.secrets h.message) in
         let now : line_now ks here ≡ line = ap (line_of h.clock.positions) (columns-same 0 ks (fields_of here) (held j.keys h.message) (λ l. ap (λ (p : Process). p.fields) (process-is l))) in
         let need : line_length ks ≡ n = ap (λ (i : ℕ). 10 + 12 * i) (keys-count ok) ∙ sym en in
         record {
           new = line ∷ [];
-          state = turn-send ks cs here (call-here Low live ∙ is) ∙ rw (now, need, ← kind-more b Sends eb, ← ec, ← called_is next enext);
+          state = turn-send ks cs here (call-here Low live ∙ is) ∙ rw (now, need, ← kind-more Sends, ← ec, ← enext);
           memory = em ∙ ap (placed m h.bytes) (sym (append-nil (line_bytes line)));
         }

@@ -2,17 +2,17 @@
 use Rattle.std.specs.Prelude.{ℕ, List, drop}
 use Rattle.model_run.specs.{Process.Process, Line.Sent, State.State}
 use Rattle.model.specs.{Stored.held, Stored.kinds_in, Stored.job_of}
-use Rattle.model.specs.declared.{Field.Field, Level.Level, Execution.Execution, Clock.Clock, StoredJob.StoredJob}
+use Rattle.model.specs.declared.{Call.Call, Field.Field, Level.Level, Execution.Execution, Clock.Clock, StoredJob.StoredJob}
 use Rattle.model.specs.declared.Owner.TheVariants.{A, B}
 use Rattle.model.specs.declared.Level.TheVariants.{Low, High}
 
--- The record of each execution, the message, the kinds of the low execution's calls as bytes, how many lines are taken, the bytes written, the clock
+-- The record of each execution, the message, the kinds of the low execution's calls, how many lines are taken, the bytes written, the clock
 pub record Held : Type 0 where
   pub low : Execution
   pub a : Execution
   pub b : Execution
   pub message : List Field
-  pub kinds : List ℕ
+  pub kinds : List Call
   pub taken : ℕ
   pub bytes : ℕ
   pub clock : Clock
@@ -31,8 +31,8 @@ with_record (High B) x h = record { low = h.low; a = h.a; b = x; message = h.mes
 abbrev pub with_message : List Field → Held → Held
 with_message m h = record { low = h.low; a = h.a; b = h.b; message = m; kinds = h.kinds; taken = h.taken; bytes = h.bytes; clock = h.clock }
 
-abbrev pub with_kinds : List ℕ → Held → Held
-with_kinds bs h = record { low = h.low; a = h.a; b = h.b; message = h.message; kinds = bs; taken = h.taken; bytes = h.bytes; clock = h.clock }
+abbrev pub with_kinds : List Call → Held → Held
+with_kinds ks h = record { low = h.low; a = h.a; b = h.b; message = h.message; kinds = ks; taken = h.taken; bytes = h.bytes; clock = h.clock }
 
 abbrev pub with_taken : ℕ → Held → Held
 with_taken n h = record { low = h.low; a = h.a; b = h.b; message = h.message; kinds = h.kinds; taken = n; bytes = h.bytes; clock = h.clock }

@@ -1,65 +1,132 @@
 // The run: three executions over one message, turn by turn, to an ending.
 #![tactic(auto)]
 
-ghost use Rattle.std.specs.Prelude.{◌≡◌, length};
-ghost use Rattle.model_run.specs.{Run.run_job, Whole.left, Whole.left_by};
-ghost use Rattle.model.specs.{Stored.job_of, Stored.Stored, Accepted.Sound};
+ghost use Rattle.std.specs.Prelude.{◌≡◌, ◌+◌, ◌*◌, ◌<◌, ◌≤◌, length, drop};
+ghost use Rattle.model_run.specs.{Run.run_job, Whole.left, Whole.left_by, Message.received, Line.line_bytes, Step.call_of};
+ghost use Rattle.model.specs.{Stored.job_of, Stored.Stored, Stored.held, Stored.key_capacity, Accepted.Sound, Limits.variables, Placed.placed, Answer.ended_as};
+ghost use Rattle.model.specs.declared.{Level.Level};
+ghost use Rattle.write_line.specs.Line.{columns_in, line_of};
+ghost use Rattle.run_job.specs.Command.{moved_by, followed_by};
 
 use model::{
-    Answer, Call, Ending, Execution, LETTER_CAPACITY, Level, Owner, RECEIVED, SENT, StoredJob,
+    Call, Clock, Command, Ended, Ending, Execution, Field, LETTER_CAPACITY, Level, Owner, StoredJob,
 };
 use run_message::{cleared, received, side, with};
-use run_step::{call_of, effect_at, holds, index};
-use run_verdict::{ended, level_of, made, readable, started, taken_after, ticked, waits};
+use run_step::{call_of, effect_at, holds};
+use run_verdict::{ended, level_of, made, readable, taken_after, ticked, waits};
 use write_line::{heading, key_cell, line_end};
+
+// One command of a level's execution, of this kind of call: of its record and of the message only what changes moves.
+#[inline(always)]
+fn step(c: Command, call: Call, level: Level, x: &mut Execution, message: &mut [Field], end: usize)
+    requires kind { call ≡ call_of c.op }
+    requires key { c.k < length message.old }
+    requires v { c.v < variables }
+    requires w { c.w < variables }
+    requires place { x.old.place < end }
+    requires calls { x.old.calls < 4294967296 }
+    requires clamped { x.old.clamped < 4294967296 }
+    ensures { record { execution = x.new; message = message.new } ≡ moved_by end c level x.old message.old }
+{
+    let k = usize::from(c.k);
+    let v = usize::from(c.v);
+    let w = usize::from(c.w);
+    let f = message[k];
+    let e = side(f, level);
+    let effect = effect_at(c, x.place, x.vars[v], x.vars[w], e, x.clamped, end);
+    let next = x.after(v, call, effect);
+    x.vars[v] = holds(next, v);
+    x.place = next.place;
+    x.calls = next.calls;
+    x.clamped = next.clamped;
+    message[k] = with(f, level, effect.entry);
+}
+
+// A turn of an owner's execution, where the low one has made so many calls of these kinds.
+#[inline(always)]
+fn follow(
+    job: &StoredJob,
+    level: Level,
+    x: &mut Execution,
+    message: &mut [Field],
+    calls: usize,
+    kinds: &[Call],
+)
+    requires sound { Sound (job_of job.now) × Stored job.now }
+    requires fields { length message.old ≡ key_capacity }
+    requires calls { (x.old.calls < length kinds.now) × (x.old.calls < 4294967296) }
+    requires clamped { x.old.clamped < 4294967296 }
+    ensures { record { execution = x.new; message = message.new } ≡ followed_by job.now level x.old message.old calls kinds.now }
+{
+    if x.place < job.command_count {
+        let c = job.commands[x.place];
+        let call = call_of(c.op);
+        let j = x.calls;
+        if !waits(call, made(j, calls, kinds[j])) {
+            step(c, call, level, x, message, job.command_count);
+        }
+    }
+}
+
+// What a receive does to the message: the next line fills it, where there is one more.
+fn receive(job: &StoredJob, message: &mut [Field], taken: usize)
+    requires sound { Sound (job_of job.now) × Stored job.now }
+    requires fields { length message.old ≡ key_capacity }
+    ensures { (l : Level) → held job.now.keys message.new l ≡ received (job_of job.now).keys (drop taken (job_of job.now).messages) l }
+{
+    let more = taken < job.message_count;
+    let line = job.messages[readable(taken, job.message_count)];
+    for k in 0..job.keys {
+        message[k] = received(job.secrets[k], more, line.slots[k]);
+    }
+}
+
+// What a send writes: the line of a position, from the byte `bytes` on.
+fn send(job: &StoredJob, message: &[Field], out: &mut [u8], bytes: usize, at: usize)
+    requires sound { Sound (job_of job.now) × Stored job.now }
+    requires fields { length message.now ≡ key_capacity }
+    requires room { bytes + (10 + 12 * job.now.keys) ≤ length out.old }
+    requires at { at < 10000 }
+    ensures { out.new ≡ placed out.old bytes (line_bytes (line_of at (columns_in job.now.keys job.now.secrets message.now))) }
+{
+    heading(out, bytes, at);
+    for k in 0..job.keys {
+        key_cell(out, bytes, k, job.secrets[k], message[k]);
+    }
+    line_end(out, bytes, job.keys);
+}
 
 // A job that reading gave, with an output memory.
 //
-// Per turn only one command, one entry, what changes of one record and the kind of one call move. An ending is tested where it can come about: that the letters are used
-// at every turn, the room at a send, the stop after a low step. Every turn ends in its own step of the clock, so that each is one case of the proof.
+// Per turn only one command, one entry, what changes of one record and the kind of one call move. An ending is tested
+// where it can come about: the room at a send, the stop after a low step, and behind the letters that they are used.
+// Each kind of low turn ends by itself: with one end for all three, a turn takes the compiled run 7 instructions more.
 // Called and not inlined, so that what a run holds takes no stack while the sheet is read.
 #[inline(never)]
-pub fn run_job(job: StoredJob, out: &mut [u8]) -> Answer
+pub fn run_job(job: StoredJob, out: &mut [u8]) -> Ended
     requires { Sound (job_of job) × Stored job }
-    ensures { left result out.new ≡ left_by out.old (run_job (job_of job) (length out.old)) }
+    ensures { left (ended_as result) out.new ≡ left_by out.old (run_job (job_of job) (length out.old)) }
 {
-    let keys = job.keys;
     let count = job.command_count;
-    let line_bytes = 10 + 12 * keys;
+    let line_bytes = 10 + 12 * job.keys;
     let mut low = Execution::begun();
     let mut a = Execution::begun();
     let mut b = Execution::begun();
     let mut message = cleared();
-    // The kinds of the low calls, a byte each: there are no more of them than letters.
-    let mut kinds = [0u8; LETTER_CAPACITY];
-    let mut clock = started();
+    // The kinds of the low calls: there are no more of them than letters.
+    let mut kinds = [Call::Neither; LETTER_CAPACITY];
+    let mut clock = Clock::default();
     let mut bytes: usize = 0;
     let mut taken: usize = 0;
-    loop {
-        let at = clock.positions;
-        if job.turn_count <= at {
-            return ended(Ending::LettersUsed, clock, bytes, taken, low.clamped);
-        }
+    for at in 0..job.turn_count {
         match level_of(job.turns[at]) {
             Level::Low => {
-                let p = low.place;
-                let c = job.commands[p];
-                let op = c.op;
-                match call_of(op) {
+                let c = job.commands[low.place];
+                match call_of(c.op) {
                     Call::Receives => {
-                        let t = readable(taken, job.message_count);
-                        let line = job.messages[t];
-                        let more = taken < job.message_count;
-                        let mut k: usize = 0;
-                        while k < keys {
-                            let s = job.secrets[k];
-                            let e = line.slots[k];
-                            message[k] = received(s, more, e);
-                            k += 1;
-                        }
+                        receive(&job, &mut message, taken);
                         taken = taken_after(taken, job.message_count);
-                        let j = low.calls;
-                        kinds[j] = RECEIVED;
+                        kinds[low.calls] = Call::Receives;
                         let next = low.called();
                         low.place = next.place;
                         low.calls = next.calls;
@@ -72,18 +139,9 @@ pub fn run_job(job: StoredJob, out: &mut [u8]) -> Answer
                         if out.len() - bytes < line_bytes {
                             return ended(Ending::NoRoom, clock, bytes, taken, low.clamped);
                         }
-                        heading(out, bytes, at);
-                        let mut k: usize = 0;
-                        while k < keys {
-                            let s = job.secrets[k];
-                            let f = message[k];
-                            key_cell(out, bytes, k, s, f);
-                            k += 1;
-                        }
-                        line_end(out, bytes, keys);
-                        bytes = bytes + line_bytes;
-                        let j = low.calls;
-                        kinds[j] = SENT;
+                        send(&job, &message, out, bytes, at);
+                        bytes += line_bytes;
+                        kinds[low.calls] = Call::Sends;
                         let next = low.called();
                         low.place = next.place;
                         low.calls = next.calls;
@@ -93,19 +151,14 @@ pub fn run_job(job: StoredJob, out: &mut [u8]) -> Answer
                         }
                     }
                     Call::Neither => {
-                        let k = index(c.k);
-                        let f = message[k];
-                        let v = index(c.v);
-                        let w = index(c.w);
-                        let e = side(f, Level::Low);
-                        let r = effect_at(c, p, low.vars[v], low.vars[w], e, low.clamped, count);
-                        let next = low.after(v, Call::Neither, r);
-                        low.vars[v] = holds(next, v);
-                        low.place = next.place;
-                        low.calls = next.calls;
-                        low.clamped = next.clamped;
-                        let entry = r.entry;
-                        message[k] = with(f, Level::Low, entry);
+                        step(
+                            c,
+                            Call::Neither,
+                            Level::Low,
+                            &mut low,
+                            &mut message,
+                            job.command_count,
+                        );
                         clock = ticked(clock, Level::Low);
                         if count <= low.place {
                             return ended(Ending::Stopped, clock, bytes, taken, low.clamped);
@@ -113,66 +166,29 @@ pub fn run_job(job: StoredJob, out: &mut [u8]) -> Answer
                     }
                 }
             }
-            Level::High(owner) => match owner {
-                Owner::A => {
-                    let p = a.place;
-                    if count <= p {
-                        clock = ticked(clock, Level::High(Owner::A));
-                    } else {
-                        let c = job.commands[p];
-                        let op = c.op;
-                        let call = call_of(op);
-                        let j = a.calls;
-                        if waits(call, made(j, low.calls, kinds[j])) {
-                            clock = ticked(clock, Level::High(Owner::A));
-                        } else {
-                            let k = index(c.k);
-                            let f = message[k];
-                            let v = index(c.v);
-                            let w = index(c.w);
-                            let e = side(f, Level::High(Owner::A));
-                            let r = effect_at(c, p, a.vars[v], a.vars[w], e, a.clamped, count);
-                            let next = a.after(v, call, r);
-                            a.vars[v] = holds(next, v);
-                            a.place = next.place;
-                            a.calls = next.calls;
-                            a.clamped = next.clamped;
-                            let entry = r.entry;
-                            message[k] = with(f, Level::High(Owner::A), entry);
-                            clock = ticked(clock, Level::High(Owner::A));
-                        }
-                    }
-                }
-                Owner::B => {
-                    let p = b.place;
-                    if count <= p {
-                        clock = ticked(clock, Level::High(Owner::B));
-                    } else {
-                        let c = job.commands[p];
-                        let op = c.op;
-                        let call = call_of(op);
-                        let j = b.calls;
-                        if waits(call, made(j, low.calls, kinds[j])) {
-                            clock = ticked(clock, Level::High(Owner::B));
-                        } else {
-                            let k = index(c.k);
-                            let f = message[k];
-                            let v = index(c.v);
-                            let w = index(c.w);
-                            let e = side(f, Level::High(Owner::B));
-                            let r = effect_at(c, p, b.vars[v], b.vars[w], e, b.clamped, count);
-                            let next = b.after(v, call, r);
-                            b.vars[v] = holds(next, v);
-                            b.place = next.place;
-                            b.calls = next.calls;
-                            b.clamped = next.clamped;
-                            let entry = r.entry;
-                            message[k] = with(f, Level::High(Owner::B), entry);
-                            clock = ticked(clock, Level::High(Owner::B));
-                        }
-                    }
-                }
-            },
+            Level::High(Owner::A) => {
+                follow(
+                    &job,
+                    Level::High(Owner::A),
+                    &mut a,
+                    &mut message,
+                    low.calls,
+                    &kinds,
+                );
+                clock = ticked(clock, Level::High(Owner::A));
+            }
+            Level::High(Owner::B) => {
+                follow(
+                    &job,
+                    Level::High(Owner::B),
+                    &mut b,
+                    &mut message,
+                    low.calls,
+                    &kinds,
+                );
+                clock = ticked(clock, Level::High(Owner::B));
+            }
         }
     }
+    ended(Ending::LettersUsed, clock, bytes, taken, low.clamped)
 }

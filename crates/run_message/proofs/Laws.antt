@@ -1,21 +1,19 @@
 -- The fields that are filled already, at each level, are the first of those that the model fills.
-use mathlib.Core.Path.{◌≡◌, refl, sym, ap, ap₂, subst, ◌∙◌}
+use mathlib.Core.Path.{◌≡◌, refl, sym, ap, ap₂, ◌∙◌}
 use mathlib.Core.Bool.{Bool, true, false, cond}
 use mathlib.Core.List.{List, [], ◌∷◌, ◌++◌, map}
-use Prim.Native.Nat.{ℕ, zero, suc, ◌+◌, ◌≤◌, ◌<◌}
-use native.Mathlib.{Omega.arith, Nat.le_of_suc-le-suc, Nat.not-suc-le-zero, Numerals.add-one}
-use lib.{IntN.ℤ, ListN.length, ListN.get_or, ListN.take, ListN.drop, ListN.set, ListN.replicate, ListN.length-map, ListN.length-replicate, ListN.get_or-replicate, Seq.take-suc}
+use Prim.Native.Nat.{ℕ, suc, ◌+◌, ◌≤◌, ◌<◌}
+use native.Mathlib.{Omega.arith, Numerals.add-one}
+use lib.{ListN.length, ListN.get_or, ListN.take, ListN.set, ListN.replicate, ListN.length-map, ListN.length-replicate, ListN.get_or-replicate, Seq.take-suc}
 use lib.{Seq.take-suc-set, Seq.take_all, Seq.map-set_same}
 use Rattle.model.specs.{Stored.key_capacity, Stored.first_of, Stored.key_in, Stored.entry_in, Stored.keys_in, Stored.side, Stored.held, Stored.open_slot, Stored.absent_slot}
 use Rattle.model.specs.{Stored.absent_field}
-use Rattle.model_run.specs.{Message.shown, Message.fill}
+use Rattle.model_run.specs.{Message.shown}
 use Rattle.model_run.proofs.Message.{fill-length, fill-at}
-use Rattle.run_message.specs.Message.{field_of, owner_of, received_by, ReceivedTo, Cleared}
+use Rattle.run_message.specs.Message.{field_of, received_by, ReceivedTo, Cleared}
 use Rattle.model.proofs.Stored.{map-set, first-set, first-same, first-at, first_count}
 use Rattle.model.specs.declared.{Entry.Entry, Field.Field, Key.Key, Level.Level, KeySlot.KeySlot, EntrySlot.EntrySlot}
-use Rattle.model.specs.declared.Entry.TheVariants.{Absent, Number}
-use Rattle.model.specs.declared.Key.TheVariants.{Open, Secret}
-use Rattle.model.specs.declared.Owner.{Owner}
+use Rattle.model.specs.declared.Entry.TheVariants.{Absent}
 use Rattle.model.specs.declared.Owner.TheVariants.{A, B}
 use Rattle.model.specs.declared.Level.TheVariants.{Low, High}
 
@@ -28,37 +26,6 @@ absent-side : (l : Level) → side l absent_field ≡ Absent
 absent-side Low = refl
 absent-side (High A) = refl
 absent-side (High B) = refl
-
-abbrev is_first : Owner → Type 0
-is_first A = Unit {0}
-is_first B = ⊥
-
--- a key's fields by its owner: the others' are all the low one's
-pub field-a : (k : Key) (e o : Entry) → o ≡ shown Low k e → owner_of k ≡ A → record { low = o; a = e; b = o } ≡ field_of k e
-unfolding shown
-field-a Open e o h f = ap (λ (x : Entry). record { low = x; a = e; b = x }) h
-field-a (Secret A d) e o h f = ap (λ (x : Entry). record { low = x; a = e; b = x }) h
-field-a (Secret B d) e o h f = absurd (subst is_first (sym f) tt)
-
-pub field-b : (k : Key) (e o : Entry) → o ≡ shown Low k e → owner_of k ≡ B → record { low = o; a = o; b = e } ≡ field_of k e
-unfolding shown
-field-b Open e o h f = absurd (subst is_first f tt)
-field-b (Secret A d) e o h f = absurd (subst is_first f tt)
-field-b (Secret B d) e o h f = ap (λ (x : Entry). record { low = x; a = x; b = e }) h
-
--- what all but the owner are shown
-pub hidden-open : (k : Key) (e : Entry) → k ≡ Open → e ≡ shown Low k e
-unfolding shown
-hidden-open Open e h = refl
-hidden-open (Secret o d) e h = absurd (subst is_open (sym h) tt)
-  where
-    is_open : Key → Type 0
-    is_open Open = Unit {0}
-    is_open (Secret o d) = ⊥
-
-pub hidden-secret : (k : Key) (e : Entry) (o : Owner) (d : ℤ) → k ≡ Secret o d → Number d ≡ shown Low k e
-unfolding shown
-hidden-secret k e o d h = sym (ap (λ (x : Key). shown Low x e) h)
 
 -- ---- No line left
 

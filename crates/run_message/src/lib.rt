@@ -10,6 +10,7 @@ ghost use Rattle.run_message.specs.Message.{field_of, owner_of, Cleared};
 use model::{Entry, EntrySlot, Field, KEY_CAPACITY, Key, KeySlot, Level, Owner};
 
 // What all but a key's owner are shown of the entry e at it: the dummy of a secret key, whether or not e is present.
+#[tactic(auto, unfolding(model_run::specs::Message::shown))]
 fn hidden(key: Key, e: Entry) -> Entry
     ensures { result ≡ shown Low key e }
 {
@@ -31,6 +32,7 @@ fn owner_of(key: Key) -> Owner
 
 // A key's fields where the line has the entry e at it. Written so that the compiler makes of a receive with no line
 // left a loop of its own.
+#[tactic(auto, unfolding(model_run::specs::Message::shown))]
 fn field(key: Key, e: Entry) -> Field
     ensures { result ≡ field_of key e }
 {
@@ -49,19 +51,21 @@ fn field(key: Key, e: Entry) -> Field
     }
 }
 
+// Absent for every level.
+const NONE: Field = Field {
+    low: Entry::Absent,
+    a: Entry::Absent,
+    b: Entry::Absent,
+};
+
 // A key's fields after a receive: as the line fills them, where there is one more; else absent.
 pub fn received(slot: KeySlot, more: bool, entry: EntrySlot) -> Field
     ensures { result ≡ cond more (field_of slot.key entry.entry) absent_field }
 {
     if more {
-        let key = slot.key;
-        let e = entry.entry;
-        return field(key, e);
-    }
-    Field {
-        low: Entry::Absent,
-        a: Entry::Absent,
-        b: Entry::Absent,
+        field(slot.key, entry.entry)
+    } else {
+        NONE
     }
 }
 
@@ -69,27 +73,17 @@ pub fn received(slot: KeySlot, more: bool, entry: EntrySlot) -> Field
 pub fn cleared() -> [Field; KEY_CAPACITY]
     ensures { Cleared result }
 {
-    let none = Field {
-        low: Entry::Absent,
-        a: Entry::Absent,
-        b: Entry::Absent,
-    };
-    [none; KEY_CAPACITY]
+    [NONE; KEY_CAPACITY]
 }
 
 // The field of a level.
 pub fn side(f: Field, level: Level) -> Entry
     ensures { result ≡ Field·side level f }
 {
-    let low = f.low;
-    let a = f.a;
-    let b = f.b;
     match level {
-        Level::Low => low,
-        Level::High(owner) => match owner {
-            Owner::A => a,
-            Owner::B => b,
-        },
+        Level::Low => f.low,
+        Level::High(Owner::A) => f.a,
+        Level::High(Owner::B) => f.b,
     }
 }
 
@@ -97,14 +91,9 @@ pub fn side(f: Field, level: Level) -> Entry
 pub fn with(f: Field, level: Level, e: Entry) -> Field
     ensures { result ≡ with_side level e f }
 {
-    let low = f.low;
-    let a = f.a;
-    let b = f.b;
     match level {
-        Level::Low => Field { low: e, a, b },
-        Level::High(owner) => match owner {
-            Owner::A => Field { low, a: e, b },
-            Owner::B => Field { low, a, b: e },
-        },
+        Level::Low => Field { low: e, ..f },
+        Level::High(Owner::A) => Field { a: e, ..f },
+        Level::High(Owner::B) => Field { b: e, ..f },
     }
 }

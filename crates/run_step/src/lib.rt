@@ -1,26 +1,12 @@
 // One command of one execution.
 #![tactic(auto)]
 
-ghost use Rattle.std.specs.Prelude.{◌≡◌, cond, ◌<◌, ◌≤◌};
-ghost use lib.{IntN.pos, Signed.lt_z};
-ghost use Rattle.model.specs.{Limits.variables, Number.is_zero};
-ghost use Rattle.model_run.specs.{Step.variable, Step.number_of, Step.presence, Step.made as Effect·made, Step.computes as Effect·computes, Step.effect_of, Step.call_of};
+ghost use Rattle.std.specs.Prelude.{◌≡◌, ◌<◌, ◌≤◌};
+ghost use Rattle.model.specs.{Limits.variables};
+ghost use Rattle.model_run.specs.{Step.variable, Step.number_of, Step.computes, Step.effect_of, Step.call_of};
 
 use model::{Call, Command, Computed, Effect, Entry, Execution, Op};
 use run_arith::{add, div, mul, sub};
-
-// A variable's or a key's number, as an index.
-pub fn index(x: u8) -> usize
-    ensures { result ≡ x }
-{
-    x as usize
-}
-
-fn target(x: u32) -> usize
-    ensures { result ≡ x }
-{
-    x as usize
-}
 
 fn number_of(e: Entry) -> i32
     ensures { result ≡ number_of e }
@@ -31,95 +17,77 @@ fn number_of(e: Entry) -> i32
     }
 }
 
-fn presence_of(e: Entry) -> i32
-    ensures { result ≡ presence e }
-{
-    match e {
-        Entry::Absent => 0,
-        Entry::Number(_) => 1,
-    }
-}
-
-fn if_neg(a: i32, t: usize, p: usize) -> usize
-    ensures { result ≡ cond (lt_z a (pos 0)) t p }
-{
-    if a < 0 { t } else { p }
-}
-
-fn if_zero(a: i32, t: usize, p: usize) -> usize
-    ensures { result ≡ cond (is_zero a) t p }
-{
-    if a == 0 { t } else { p }
-}
-
-fn made(place: usize, value: i32, entry: Entry, clamped: usize) -> Effect
-    ensures { result ≡ Effect·made place value entry clamped }
+// The effect of an operation that gives this, where otherwise it would be the effect `next`.
+fn computed(next: Effect, res: Computed) -> Effect
+    requires { (next.clamped < 4294967296) × (res.clamps ≤ 1) }
+    ensures { result ≡ computes next.place res next.entry next.clamped }
 {
     Effect {
-        place,
-        value,
-        clamped,
-        entry,
-    }
-}
-
-fn computes(place: usize, res: Computed, entry: Entry, clamped: usize) -> Effect
-    requires { (clamped < 4294967296) × (res.clamps ≤ 1) }
-    ensures { result ≡ Effect·computes place res entry clamped }
-{
-    Effect {
-        place,
         value: res.value,
-        clamped: clamped + res.clamps,
-        entry,
+        clamped: next.clamped + res.clamps,
+        ..next
     }
 }
 
-// A command at the place p of a program that ends at the place end; a and b are what its variables hold, e is the entry at its key, m the clamped results so far.
+// A command at the place p of a program that ends at the place end; a and b are what its variables hold, e is the entry
+// at its key, m the clamped results so far. These are no struct: it would be made for one call and taken apart in it.
 pub fn effect_at(c: Command, p: usize, a: i32, b: i32, e: Entry, m: usize, end: usize) -> Effect
     requires { (p < end) × (m < 4294967296) }
     ensures { result ≡ effect_of c p a b e m end }
 {
-    let op = c.op;
-    let q = p + 1;
-    match op {
-        Op::Set => made(q, c.n, e, m),
-        Op::Add => computes(q, add(a, b), e, m),
-        Op::Sub => computes(q, sub(a, b), e, m),
-        Op::Mul => computes(q, mul(a, b), e, m),
-        Op::Div => computes(q, div(a, b), e, m),
-        Op::Read => made(q, number_of(e), e, m),
-        Op::Has => made(q, presence_of(e), e, m),
-        Op::Put => made(q, a, Entry::Number(a), m),
-        Op::Drop => made(q, a, Entry::Absent, m),
-        Op::IfNeg => made(if_neg(a, target(c.t), q), a, e, m),
-        Op::IfZero => made(if_zero(a, target(c.t), q), a, e, m),
-        Op::Jump => made(target(c.t), a, e, m),
-        Op::Receive => made(q, a, e, m),
-        Op::Send => made(q, a, e, m),
-        Op::Stop => made(end, a, e, m),
+    let next = Effect {
+        place: p + 1,
+        value: a,
+        clamped: m,
+        entry: e,
+    };
+    match c.op {
+        Op::Set => Effect { value: c.n, ..next },
+        Op::Add => computed(next, add(a, b)),
+        Op::Sub => computed(next, sub(a, b)),
+        Op::Mul => computed(next, mul(a, b)),
+        Op::Div => computed(next, div(a, b)),
+        Op::Read => Effect {
+            value: number_of(e),
+            ..next
+        },
+        Op::Has => Effect {
+            value: i32::from(e != Entry::Absent),
+            ..next
+        },
+        Op::Put => Effect {
+            entry: Entry::Number(a),
+            ..next
+        },
+        Op::Drop => Effect {
+            entry: Entry::Absent,
+            ..next
+        },
+        Op::IfNeg => Effect {
+            place: if a < 0 { c.t as usize } else { next.place },
+            ..next
+        },
+        Op::IfZero => Effect {
+            place: if a == 0 { c.t as usize } else { next.place },
+            ..next
+        },
+        Op::Jump => Effect {
+            place: c.t as usize,
+            ..next
+        },
+        Op::Receive | Op::Send => next,
+        Op::Stop => Effect { place: end, ..next },
     }
 }
 
+#[tactic(auto, unfolding(model_run::specs::Step::call_of))]
 pub fn call_of(op: Op) -> Call
     ensures { result ≡ call_of op }
 {
     match op {
-        Op::Set => Call::Neither,
-        Op::Add => Call::Neither,
-        Op::Sub => Call::Neither,
-        Op::Mul => Call::Neither,
-        Op::Div => Call::Neither,
-        Op::Read => Call::Neither,
-        Op::Has => Call::Neither,
-        Op::Put => Call::Neither,
-        Op::Drop => Call::Neither,
-        Op::IfNeg => Call::Neither,
-        Op::IfZero => Call::Neither,
-        Op::Jump => Call::Neither,
         Op::Receive => Call::Receives,
         Op::Send => Call::Sends,
-        Op::Stop => Call::Neither,
+        _ => Call::Neither,
     }
 }
 

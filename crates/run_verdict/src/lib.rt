@@ -1,25 +1,24 @@
-// The parts of one turn that are no command: whose turn it is, whether a high execution waits, what a receive takes, the clock, the answer of a run that ends.
+// The parts of one turn that are no command: whose turn it is, whether a high execution waits, what a receive takes,
+// the clock, what a run that ends comes to.
 #![tactic(auto)]
 
-ghost use Rattle.std.specs.Prelude.{◌≡◌, cond, ◌+◌, ◌<◌, ◌≤◌, ltb};
-ghost use Rattle.model_run.specs.{Verdict.waits as Verdict·waits, State.role, State.steps_by, State.started as Clock·started, State.ticked as Clock·ticked};
-ghost use Rattle.model.specs.{Stored.level_of, Stored.kind_of};
-ghost use Rattle.model.specs.declared.{Answer.TheVariants.Ended, Call.TheVariants.Neither};
+ghost use Rattle.std.specs.Prelude.{◌≡◌, cond, ◌+◌, ◌<◌, ltb};
+ghost use Rattle.model_run.specs.{Verdict.waits as Verdict·waits, State.ticked as Clock·ticked};
+ghost use Rattle.model.specs.{Stored.level_of};
+ghost use Rattle.model.specs.declared.{Call.TheVariants.Neither};
 ghost use Rattle.run_verdict.specs.Verdict.{CountsFit, counts_as};
 
-use model::{Answer, Call, Clock, Counts, Ending, Level, Owner, RECEIVED};
+use model::{Call, Clock, Counts, Ended, Ending, Level, Owner};
 
 // The level whose turn a letter is.
 pub fn level_of(letter: u8) -> Level
     ensures { result ≡ level_of letter }
 {
-    if letter == b'L' {
-        return Level::Low;
+    match letter {
+        b'L' => Level::Low,
+        b'B' => Level::High(Owner::B),
+        _ => Level::High(Owner::A),
     }
-    if letter == b'B' {
-        return Level::High(Owner::B);
-    }
-    Level::High(Owner::A)
 }
 
 // A place that can be read: i itself below n, else 0.
@@ -36,86 +35,52 @@ pub fn taken_after(taken: usize, lines: usize) -> usize
     if taken < lines { taken + 1 } else { taken }
 }
 
-// The kind of call that a byte stands for.
-fn kind_of(kind: u8) -> Call
-    ensures { result ≡ kind_of kind }
+// The kind of the low call number j, counted from 0, of n that are made; kind is what is stored for it. Neither where
+// it is not made yet.
+pub fn made(j: usize, n: usize, kind: Call) -> Call
+    ensures { result ≡ cond (ltb j n) kind Neither }
 {
-    if kind == RECEIVED {
-        return Call::Receives;
-    }
-    Call::Sends
+    if j < n { kind } else { Call::Neither }
 }
 
-// The kind of the low call number j, counted from 0, of n that are made; kind is the byte that is stored for it. Neither where it is not made yet.
-pub fn made(j: usize, n: usize, kind: u8) -> Call
-    ensures { result ≡ cond (ltb j n) (kind_of kind) Neither }
-{
-    if j < n {
-        return kind_of(kind);
-    }
-    Call::Neither
-}
-
-// Whether an execution that follows waits at its call: the low call of the same number has not been made, or was of the other kind.
+// Whether an execution that follows waits at its call: the low call of the same number has not been made, or was of
+// the other kind. By kinds and no comparison of the two: with one, an owner's call takes the compiled run 16
+// instructions more.
+#[tactic(auto, unfolding(model_run::specs::Verdict::waits))]
 pub fn waits(call: Call, low: Call) -> bool
     ensures { result ≡ Verdict·waits call low }
 {
     match call {
         Call::Neither => false,
-        Call::Receives => match low {
-            Call::Neither => true,
-            Call::Receives => false,
-            Call::Sends => true,
-        },
-        Call::Sends => match low {
-            Call::Neither => true,
-            Call::Receives => true,
-            Call::Sends => false,
-        },
+        Call::Receives => low != Call::Receives,
+        Call::Sends => low != Call::Sends,
     }
 }
 
-// The low steps of a level's turn: the low level leads.
-fn low_steps(level: Level) -> usize
-    ensures { (result ≡ steps_by (role level)) × (result ≤ 1) }
-{
-    match level {
-        Level::Low => 1,
-        Level::High(_) => 0,
-    }
-}
-
-// The clock at first, and after a turn of a level.
-pub fn started() -> Clock
-    ensures { result ≡ Clock·started }
-{
-    Clock {
-        positions: 0,
-        steps: 0,
-    }
-}
-
+// The clock after a turn of a level, of which the low one's are the low steps.
 pub fn ticked(clock: Clock, level: Level) -> Clock
     requires { (clock.positions < 4294967296) × (clock.steps < 4294967296) }
     ensures { result ≡ Clock·ticked level clock }
 {
     Clock {
         positions: clock.positions + 1,
-        steps: clock.steps + low_steps(level),
+        steps: clock.steps + usize::from(level == Level::Low),
     }
 }
 
-// The answer of a run that ends so, with the clamped results of the low execution.
-pub fn ended(e: Ending, clock: Clock, bytes: usize, taken: usize, clamped: usize) -> Answer
+// What a run that ends so comes to, with the clamped results of the low execution.
+pub fn ended(ending: Ending, clock: Clock, bytes: usize, taken: usize, clamped: usize) -> Ended
     requires { CountsFit clock bytes taken clamped }
-    ensures { result ≡ Ended e (counts_as clock bytes taken clamped) }
+    ensures { result ≡ record { ending = ending; counts = counts_as clock bytes taken clamped } }
 {
-    let counts = Counts {
-        positions: clock.positions as u32,
-        steps: clock.steps as u32,
-        bytes: bytes as u32,
-        taken: taken as u32,
-        clamped: clamped as u32,
-    };
-    Answer::Ended(e, counts)
+    Ended {
+        ending,
+        counts: Counts {
+            positions: clock.positions as u32,
+            steps: clock.steps as u32,
+            bytes: bytes as u32,
+            taken: taken as u32,
+            clamped: clamped as u32,
+        },
+    }
 }

@@ -5,7 +5,6 @@
 
 use model::MOST_BYTES;
 use std::io;
-use terminal::Input;
 
 const READ_BYTES: usize = MOST_BYTES + 1;
 
@@ -14,11 +13,9 @@ const LENT_BYTES: usize = 32768;
 fn main(rt: HostRuntime) -> io::Result<()> {
     let mut sheet = [0u8; READ_BYTES];
     let mut output = [0u8; LENT_BYTES];
-    match terminal::read_all(&mut rt.stdin(), &mut sheet) {
-        Input::Got(n) => {
-            let (_, printed) = show::run_and_print(&sheet[..n], &mut output, &mut rt.stdout());
-            printed
-        }
-        Input::Failed => eprintln!(rt; "runsheet: standard input could not be read"),
-    }
+    let Ok(n) = terminal::read_all(&mut rt.stdin(), &mut sheet) else {
+        return eprintln!(rt; "runsheet: standard input could not be read");
+    };
+    let (_, printed) = show::run_and_print(&sheet[..n], &mut output, &mut rt.stdout());
+    printed
 }

@@ -3,9 +3,10 @@
 
 ghost use Rattle.std.specs.Prelude.{◌≡◌, OnOk};
 ghost use Rattle.std.specs.Io.KnownBytes.{Appends};
+ghost use Rattle.model.specs.Answer.{answer_as};
 ghost use Rattle.model_run.specs.{Whole.left, Whole.run_sheet, Whole.printed};
 
-use model::Answer;
+use model::{Ended, Fault};
 use std::io;
 use std::io::Write;
 use whole_sheet::run_sheet;
@@ -18,12 +19,12 @@ pub fn run_and_print<W: Write>(
     sheet: &[u8],
     output: &mut [u8],
     stdout: &mut W,
-) -> (Answer, io::Result<()>)
-    ensures memory { left result.0 output.new ≡ run_sheet sheet.now output.old }
+) -> (Result<Ended, Fault>, io::Result<()>)
+    ensures memory { left (answer_as result.0) output.new ≡ run_sheet sheet.now output.old }
     ensures lines { OnOk result.1 (Appends (W.contents stdout.old) (W.contents stdout.new)
         (printed sheet.now output.old)) }
 {
-    let a = run_sheet(sheet, output);
-    let printed = terminal::print_run(stdout, numbers(a), output);
-    (a, printed)
+    let run = run_sheet(sheet, output);
+    let printed = terminal::print_run(stdout, numbers(run), output);
+    (run, printed)
 }

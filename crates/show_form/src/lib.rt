@@ -3,16 +3,15 @@
 
 ghost use Rattle.std.specs.Prelude.{◌≡◌, OnOk};
 ghost use Rattle.std.specs.Io.KnownBytes.{Appends};
-ghost use Rattle.model.specs.{Written.written};
+ghost use Rattle.model.specs.{Written.written, Written.told};
 ghost use Rattle.model_forms.specs.Forms.{turn_sheet};
 ghost use Rattle.terminal.specs.Printed.{text_of, said_of};
 
-use model::TextAnswer;
+use model::TextFault;
 use model_forms::Asked;
 use std::io::Write;
 use terminal::Printed;
 use whole_forms::turn_sheet;
-use write_answer::text_numbers;
 
 // Turns the sheet into the output memory and prints it, and `answer=` with the three numbers on standard error. The
 // output memory is left as the turning left it, also where printing fails.
@@ -22,14 +21,17 @@ pub fn turn_and_print<W: Write, E: Write>(
     output: &mut [u8],
     stdout: &mut W,
     stderr: &mut E,
-) -> (TextAnswer, Printed)
-    ensures memory { written result.0 output.new ≡ turn_sheet asked sheet.now output.old }
+) -> (Result<u32, TextFault>, Printed)
+    ensures memory { written (told result.0) output.new ≡ turn_sheet asked sheet.now output.old }
     ensures text { OnOk result.1.text (Appends (W.contents stdout.old) (W.contents stdout.new)
         (text_of (turn_sheet asked sheet.now output.old))) }
     ensures numbers { OnOk result.1.numbers (Appends (E.contents stderr.old) (E.contents stderr.new)
         (said_of (turn_sheet asked sheet.now output.old))) }
 {
-    let a = turn_sheet(sheet, asked, output);
-    let printed = terminal::print_text(stdout, stderr, text_numbers(a), output);
-    (a, printed)
+    terminal::write_and_print(
+        |memory| turn_sheet(sheet, asked, memory),
+        output,
+        stdout,
+        stderr,
+    )
 }

@@ -3,15 +3,14 @@
 
 ghost use Rattle.std.specs.Prelude.{◌≡◌, OnOk};
 ghost use Rattle.std.specs.Io.KnownBytes.{Appends};
-ghost use Rattle.model.specs.{Written.written};
+ghost use Rattle.model.specs.{Written.written, Written.told};
 ghost use Rattle.model_log.specs.Log.{write_log};
 ghost use Rattle.terminal.specs.Printed.{text_of, said_of};
 
-use model::TextAnswer;
+use model::TextFault;
 use std::io::Write;
 use terminal::Printed;
 use whole_log::write_log;
-use write_answer::text_numbers;
 
 // Writes the `msg` lines of the export into the output memory and prints them, and `answer=` with the three numbers on
 // standard error. The output memory is left as the writing left it, also where printing fails.
@@ -20,14 +19,12 @@ pub fn write_and_print<W: Write, E: Write>(
     output: &mut [u8],
     stdout: &mut W,
     stderr: &mut E,
-) -> (TextAnswer, Printed)
-    ensures memory { written result.0 output.new ≡ write_log log.now output.old }
+) -> (Result<u32, TextFault>, Printed)
+    ensures memory { written (told result.0) output.new ≡ write_log log.now output.old }
     ensures text { OnOk result.1.text (Appends (W.contents stdout.old) (W.contents stdout.new)
         (text_of (write_log log.now output.old))) }
     ensures numbers { OnOk result.1.numbers (Appends (E.contents stderr.old) (E.contents stderr.new)
         (said_of (write_log log.now output.old))) }
 {
-    let a = write_log(log, output);
-    let printed = terminal::print_text(stdout, stderr, text_numbers(a), output);
-    (a, printed)
+    terminal::write_and_print(|memory| write_log(log, memory), output, stdout, stderr)
 }

@@ -17,9 +17,9 @@ appends = record {
   more = λ k n h. rw (le-ltb n 10 h) refl;
 }
 
-pub natural-decimal : (n : ℕ) → n < 4294967296 → natural n ≡ decimal n
+pub natural_decimal : (n : ℕ) → n < 4294967296 → natural n ≡ decimal n
 unfolding natural width
-natural-decimal n h = decimal_from_appends _ appends 10 n (omega arith) (length-decimal-le 10 n (omega arith) (omega arith) (omega arith))
+natural_decimal n h = decimal_from_appends _ appends 10 n (omega arith) (length-decimal-le 10 n (omega arith) (omega arith) (omega arith))
 
 -- a space stands between the last number and those before it
 spaced-snoc : (ns : List ℕ) (n : ℕ) → 0 < length ns → spaced (ns ++ (n ∷ [])) ≡ spaced ns ++ (space ∷ natural n)

@@ -1,40 +1,35 @@
 // What the programs read from standard input and print.
 #![tactic(auto)]
 
-ghost use Rattle.std.specs.Prelude.{◌++◌, length, take, OnOk};
+ghost use Rattle.std.specs.Prelude.{◌++◌, ◌≤◌, length, take, OnOk, IfOk};
 ghost use Rattle.std.specs.Io.KnownBytes.{Appends};
-ghost use Rattle.model.specs.{Answer.report, Answer.spaced, Answer.bytes_written, Decimal.natural};
-ghost use Rattle.terminal.specs.Input.{WithinBuffer, Reads};
-ghost use Rattle.terminal.specs.Printed.{line_of, answer_line, text_bytes};
+ghost use Rattle.std.specs.Fn.{FnOnceReturnsAtMut};
+ghost use Rattle.model.specs.{Answer.report, Answer.spaced, Answer.bytes_written, Decimal.natural, Written.written, Written.told};
+ghost use Rattle.terminal.specs.Input.{Reads};
+ghost use Rattle.terminal.specs.Printed.{line_of, answer_line, text_bytes, text_of, said_of};
 
-use model::{NUMBERS, TEXT_NUMBERS};
+use model::{NUMBERS, TEXT_NUMBERS, TextFault};
 use std::io;
 use std::io::{Read, Write};
+use write_answer::text_numbers;
 
-// So many bytes were read before the input ended or the buffer was full; or a read failed.
-#[derive(Clone, Copy)]
-pub enum Input {
-    Got(usize),
-    Failed,
-}
-
-// Reads until the buffer is full or the input ends, however few bytes a read gives. A read that fails is told apart
-// from the end.
-pub fn read_all<R: Read>(reader: &mut R, buf: &mut [u8]) -> Input
-    ensures within { WithinBuffer result (length buf.new) }
+// Reads until the buffer is full or the input ends, however few bytes a read gives, and answers how many bytes it has
+// read. A read that fails is told apart from the end.
+pub fn read_all<R: Read>(reader: &mut R, buf: &mut [u8]) -> io::Result<usize>
+    ensures within { IfOk result (λ n. n ≤ length buf.new) }
     ensures bytes { Reads (R.remaining reader.old) (R.remaining reader.new) result buf.new }
 {
     let mut done = 0;
     while done < buf.len() {
-        match reader.read(&mut buf[done..]) {
-            Ok(0) => return Input::Got(done),
-            Ok(n) => done += n,
-            Err(_) => return Input::Failed,
+        match reader.read(&mut buf[done..])? {
+            0 => break,
+            n => done += n,
         }
     }
-    Input::Got(done)
+    Ok(done)
 }
 
+#[tactic(auto, using(crate::proofs::Numbers::natural_decimal))]
 fn print_number<W: Write>(to: &mut W, x: u32) -> io::Result<()>
     ensures { OnOk result (Appends (W.contents to.old) (W.contents to.new) (natural x)) }
 {
@@ -64,6 +59,7 @@ fn print_numbers<W: Write>(to: &mut W, name: &[u8], ns: &[u32]) -> io::Result<()
 }
 
 // Prints the sent lines, and then `end=` with the seven numbers.
+#[tactic(auto, unfolding(model::specs::Text::bytes, model::specs::Answer::report))]
 pub fn print_run<W: Write>(stdout: &mut W, ns: [u32; NUMBERS], output: &[u8]) -> io::Result<()>
     ensures { OnOk result (Appends (W.contents stdout.old) (W.contents stdout.new)
         (take (bytes_written ns) output.now ++ report ns)) }
@@ -81,6 +77,7 @@ pub struct Printed {
 }
 
 // Prints the text that was written; standard error gets `answer=` with the three numbers.
+#[tactic(auto, unfolding(model::specs::Text::bytes))]
 pub fn print_text<W: Write, E: Write>(
     stdout: &mut W,
     stderr: &mut E,
@@ -95,4 +92,28 @@ pub fn print_text<W: Write, E: Write>(
         text: print_front(stdout, output, ns[2]),
         numbers: print_numbers(stderr, b"answer=", &ns),
     }
+}
+
+// Writes a text into the output memory and prints it, and `answer=` with the three numbers on standard error. The output
+// memory is left as the writing left it, also where printing fails.
+pub fn write_and_print<F, W, E>(
+    writing: F,
+    output: &mut [u8],
+    stdout: &mut W,
+    stderr: &mut E,
+) -> (Result<u32, TextFault>, Printed)
+where
+    F: FnOnce(&mut [u8]) -> Result<u32, TextFault>,
+    W: Write,
+    E: Write,
+    requires { F.IsAlwaysCallable writing }
+    ensures memory { FnOnceReturnsAtMut F.FnOnce writing output.old result.0 output.new }
+    ensures text { OnOk result.1.text (Appends (W.contents stdout.old) (W.contents stdout.new)
+        (text_of (written (told result.0) output.new))) }
+    ensures numbers { OnOk result.1.numbers (Appends (E.contents stderr.old) (E.contents stderr.new)
+        (said_of (written (told result.0) output.new))) }
+{
+    let wrote = writing(output);
+    let printed = print_text(stdout, stderr, text_numbers(wrote), output);
+    (wrote, printed)
 }

@@ -1,8 +1,10 @@
 -- Which letters are not B's, how much of a stored job counts, and what the first form says.
 use Prim.Native.Nat.{ℕ, ◌≤◌}
-use mathlib.Core.Path.{◌≡◌, refl, ◌∙◌}
-use mathlib.Core.Bool.{Bool, true, false, not}
-use mathlib.Core.List.{map}
+use mathlib.Core.Path.{◌≡◌, refl, sym, ap, ◌∙◌}
+use mathlib.Core.Bool.{Bool, true, false, not, ◌&&◌}
+use mathlib.Core.List.{List, [], ◌∷◌, map}
+use Rattle.std.specs.List.{list_all}
+use Rattle.std.proofs.lemmas.List.{take-map}
 use native.Mathlib.Omega.{arith}
 use lib.{Dec.eqb, ListN.length, ListN.take, ListN.length-map}
 use lib.Seq.{length-take-le}
@@ -23,6 +25,19 @@ letter-a b = go (eqb b letter_l) (eqb b letter_b) refl refl
     go true false p q = rw p
     go false true p q = rw (p, q)
     go false false p q = rw (p, q)
+
+-- ---- The keys
+
+-- tests of what f shows of each, as the library has them and as the model has them
+pub all-shown : {S A : Type 0} (p : A → Bool) (f : S → A) (xs : List S) → list_all (λ (x : S). p (f x)) xs ≡ all p (map f xs)
+unfolding all
+all-shown p f [] = refl
+all-shown p f (x ∷ xs) = ap (λ (b : Bool). p (f x) && b) (all-shown p f xs)
+
+-- the keys of a job, shown before they are taken or after
+pub keys-shown : (job : StoredJob) → all key_a (map key_in (take job.keys job.secrets)) ≡ all key_a (job_of job).keys
+unfolding job_of
+keys-shown job = ap (all key_a) (sym (take-map key_in job.keys job.secrets))
 
 -- ---- The job
 

@@ -4,7 +4,6 @@
 
 use std::io;
 use std::io::Write;
-use terminal::Input;
 
 const READ_BYTES: usize = 65536;
 
@@ -14,19 +13,12 @@ fn run_each<W: Write>(
     few: &mut [u8],
     stdout: &mut W,
 ) -> io::Result<()> {
-    let mut a = 0;
-    while a < sheets.len() {
-        let rest = &sheets[a..];
-        let e = read_text::find_byte(rest, 0);
-        if rest.len() <= e {
-            break;
-        }
-        let sheet = &rest[..e];
-        let (_, printed) = show::run_and_print(sheet, output, stdout);
-        printed?;
-        let (_, printed) = show::run_and_print(sheet, few, stdout);
-        printed?;
-        a = a + e + 1;
+    let mut parts = sheets.split(|b| *b == 0);
+    // No 0 ends the last part.
+    parts.next_back();
+    for sheet in parts {
+        show::run_and_print(sheet, output, stdout).1?;
+        show::run_and_print(sheet, few, stdout).1?;
     }
     Ok(())
 }
@@ -35,8 +27,8 @@ fn main(rt: HostRuntime) -> io::Result<()> {
     let mut sheets = [0u8; READ_BYTES];
     let mut output = [0u8; 32768];
     let mut few = [0u8; 100];
-    match terminal::read_all(&mut rt.stdin(), &mut sheets) {
-        Input::Got(n) => run_each(&sheets[..n], &mut output, &mut few, &mut rt.stdout()),
-        Input::Failed => Err(io::Error::other("the sheets could not be read")),
-    }
+    let Ok(n) = terminal::read_all(&mut rt.stdin(), &mut sheets) else {
+        return Err(io::Error::other("the sheets could not be read"));
+    };
+    run_each(&sheets[..n], &mut output, &mut few, &mut rt.stdout())
 }

@@ -3,17 +3,17 @@ use Prim.Native.Nat.{ℕ, ◌<◌, ◌≤◌}
 use mathlib.Core.Path.{◌≡◌, sym, ap, ap₂, subst, ◌∙◌}
 use mathlib.Core.List.{List, [], ◌∷◌}
 use native.Mathlib.Omega.{arith}
-use lib.{ListN.length, ListN.take, Seq.take_all}
+use lib.{ListN.length, ListN.take, ListN.length-map, Seq.take_all}
 use Rattle.model.specs.{Limits.most_keys, Limits.most_commands, Accepted.Every, Accepted.Within, Placed.front, Written.written, Written.untouched}
-use Rattle.model.specs.declared.Command.{Command}
+use Rattle.std.specs.Prelude.{Ok, Err}
+use Rattle.model.specs.Refusal.{number_of}
+use Rattle.model.specs.declared.{Command.Command, TextFault.TextFault}
 use Rattle.model.proofs.Placed.{placed-front}
 use Rattle.model_text.specs.Text.{command_lines}
 use Rattle.model_blocks.specs.{Block.Block, Block.places, Block.commands_of, Dialect.tree, Dialect.read_blocks, Dialect.write_blocks}
 use Rattle.model_blocks.proofs.{Read.well-read, Within.count-is-places, Within.commands-within, Sheet.blocks-short, Cases.when-many, Cases.when-refused, Cases.when-short, Cases.when-fits}
-use Rattle.pack_command.specs.Pack.{Packable, Unpacked}
+use Rattle.pack_command.specs.Pack.{Packable, Unpacked, command_number}
 use Rattle.read_blocks.specs.Blocks.{ProgramRead}
-use Rattle.read_blocks.specs.declared.Translated.{Translated}
-use Rattle.read_blocks.specs.declared.Translated.TheVariants.{Got, Refused}
 use Rattle.write_text.specs.Put.{Put}
 
 -- commands within their limits have room in a number
@@ -32,16 +32,13 @@ blocks-packable K s b e few =
 
 -- ---- The commands as they are read, kept as numbers and unpacked
 
-pub program-as : (K : ℕ) (s m m' : List ℕ) (r : Translated) {x : Translated} → ProgramRead K s m m' r → r ≡ x → ProgramRead K s m m' x
-program-as K s m m' r h e = subst (ProgramRead K s m m') e h
-
-pub too_many : (K : ℕ) (s m m' o : List ℕ) (n : ℕ) → ProgramRead K s m m' (Got n) → most_commands < n → write_blocks K s o ≡ untouched 53 0 o
+pub too_many : (K : ℕ) (s m m' o : List ℕ) (n : ℕ) → ProgramRead K s m m' (Ok n) → most_commands < n → write_blocks K s o ≡ untouched 53 0 o
 unfolding ProgramRead
 too_many K s m m' o n h l = when-many K s o h.0 h.1 (omega (arith, h.2))
 
-pub refused-read : (K : ℕ) (s m m' o : List ℕ) (n l : ℕ) → ProgramRead K s m m' (Refused n l) → write_blocks K s o ≡ untouched n l o
+pub refused-read : (K : ℕ) (s m m' o : List ℕ) (x : TextFault) → ProgramRead K s m m' (Err x) → write_blocks K s o ≡ untouched (number_of x.refusal) x.line o
 unfolding ProgramRead
-refused-read K s m m' o n l h = when-refused K s o n l h
+refused-read K s m m' o x h = when-refused K s o (number_of x.refusal) x.line h
 
 -- the first n commands are those of a text
 pub record Recovered (K : ℕ) (s : List ℕ) (n : ℕ) (commands : List Command) : Type 0 where
@@ -50,17 +47,18 @@ pub record Recovered (K : ℕ) (s : List ℕ) (n : ℕ) (commands : List Command
   pub few : places block ≤ most_commands
   pub are : command_lines (take n commands) ≡ command_lines (commands_of block)
 
-pub recovered : (K : ℕ) (s m m' : List ℕ) (n : ℕ) (commands : List Command) → ProgramRead K s m m' (Got n) → n ≤ most_commands → n ≤ length m → Unpacked m' n n commands → Recovered K s n commands
+pub recovered : (K : ℕ) (s m m' : List ℕ) (n : ℕ) (commands : List Command) → ProgramRead K s m m' (Ok n) → n ≤ most_commands → n ≤ length m → Unpacked (take n m') (length (take n m')) commands → Recovered K s n commands
 unfolding ProgramRead
 recovered K s m m' n commands h small inside u =
     let b = h.0 in
     let few : places b ≤ most_commands = omega (arith, h.2) in
     let p = blocks-packable K s b h.1 few in
+    let size : length (take n m') ≡ n = ap length (h.3 inside) ∙ length-map (commands_of b) command_number ∙ omega (arith, h.2, count-is-places b) in
     record {
       block = b;
       reads = h.1;
       few = few;
-      are = ap command_lines (u.are (commands_of b) p (h.3 inside) ∙ take_all n (commands_of b) (omega (arith, h.2, count-is-places b)));
+      are = ap command_lines (rw (← size) (u.are (commands_of b) p (h.3 inside)) ∙ take_all n (commands_of b) (omega (arith, h.2, count-is-places b)));
     }
 
 -- their lines are short

@@ -1,15 +1,17 @@
 -- What opening a sheet over an old record gives, by the reading of the sheet.
-use Rattle.std.specs.Prelude.{ℕ, true, false, List}
+use Rattle.std.specs.Prelude.{ℕ, ◌≡◌, List, Result, Ok, Err}
 use Rattle.model.specs.Sheet.{Reading, accepted, refused, read_sheet}
 use Rattle.model.specs.Written.{Draft, Written, write}
 use Rattle.model.specs.Written as Written
 use Rattle.model_record.specs.declared.JobRecord.{JobRecord}
 use Rattle.model_record.specs.Record.{record_over}
-use Rattle.whole_record.specs.declared.Opened.{Opened}
+use Rattle.model.specs.{Job.Job, Refusal.number_of}
+use Rattle.model.specs.declared.Fault.{Fault}
 
-abbrev pub opened : JobRecord → Reading → Opened
-opened old (refused n l) = record { read = false; number = n; line = l; job = old }
-opened old (accepted j) = record { read = true; number = 0; line = 0; job = record_over j old }
+-- r is the record of the sheet's job over the old one; where the sheet is refused, the old one itself
+abbrev pub Opened : JobRecord → Reading → Result Unit Fault → JobRecord → Type 0
+Opened old x (Ok u) r = (j : Job) × (x ≡ accepted j) × (r ≡ record_over j old)
+Opened old x (Err f) r = (x ≡ refused (number_of f.refusal) f.line) × (r ≡ old)
 
 -- a sheet that is opened and saved again: what is written is the sheet itself, unless it is refused
 abbrev pub again : List ℕ → Reading → Draft

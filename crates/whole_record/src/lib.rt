@@ -2,64 +2,42 @@
 #![tactic(auto)]
 
 ghost use Rattle.std.specs.Prelude.{◌≡◌};
-ghost use Rattle.model.specs.{Written.written, Sheet.read_sheet};
+ghost use Rattle.model.specs.{Written.told, Written.written, Sheet.read_sheet};
 ghost use Rattle.model_record.specs.{Claims.Shaped, Entry.write_record};
-ghost use Rattle.whole_record.specs.Opened.{opened, resaved};
+ghost use Rattle.whole_record.specs.Opened.{Opened, resaved};
 
-use model::TextAnswer;
+use model::{Fault, Refusal, StoredJob, TextFault};
 use model_record::{
     COMMAND_PLACES, CommandRecord, EntryRecord, JobRecord, KEY_PLACES, LETTER_PLACES,
     MESSAGE_PLACES, MessageRecord, SecretRecord,
 };
 use read_record::read_record;
-use read_sheet::{Status, read_sheet};
+use read_sheet::read_sheet;
 use save_job::{refuse, save_job};
 use write_record::record_over;
 
 // Writes the sheet of a record into the output memory, or refuses and writes nothing. Any record at all is taken.
-pub fn save_record(r: JobRecord, output: &mut [u8]) -> TextAnswer
-    ensures { written result output.new ≡ write_record r output.old }
+pub fn save_record(r: JobRecord, output: &mut [u8]) -> Result<u32, TextFault>
+    ensures { written (told result) output.new ≡ write_record r output.old }
 {
-    let taken = read_record(r);
-    if !taken.passes {
-        return refuse(54);
+    let mut job = StoredJob::nothing();
+    match read_record(r, &mut job) {
+        Some(()) => save_job(job, Refusal::ShortForRecord, output),
+        None => Err(refuse(Refusal::BadRecord)),
     }
-    let job = taken.job;
-    save_job(job, 55, output)
 }
 
-// What opening a sheet gives: whether it was read, 0 or a refusal's number, the line that it names, and the record.
-#[derive(Clone, Copy)]
-pub struct Opened {
-    pub read: bool,
-    pub number: u32,
-    pub line: u32,
-    pub job: JobRecord,
-}
-
-// Reads a sheet over an old record. A refusal leaves it as it was. Any bytes at all are taken.
-pub fn open_sheet(sheet: &[u8], old: JobRecord) -> Opened
-    ensures { result ≡ opened old (read_sheet sheet.now) }
+// Reads a sheet over an old record, which a refusal leaves as it was. Any bytes at all are taken.
+pub fn open_sheet(sheet: &[u8], r: &mut JobRecord) -> Result<(), Fault>
+    ensures { Opened r.old (read_sheet sheet.now) result r.new }
 {
-    let read = read_sheet(sheet);
-    let status = read.status;
-    match status {
-        Status::Refused(number, line) => Opened {
-            read: false,
-            number,
-            line,
-            job: old,
-        },
-        Status::Got => {
-            let stored = read.job;
-            let job = record_over(stored, old);
-            Opened {
-                read: true,
-                number: 0,
-                line: 0,
-                job,
-            }
+    // With `?` the job is copied once more: 4 KB of stack.
+    match read_sheet(sheet) {
+        Ok(job) => {
+            record_over(job, r);
+            Ok(())
         }
+        Err(fault) => Err(fault),
     }
 }
 
@@ -100,18 +78,10 @@ fn blank() -> JobRecord
 }
 
 // Opens a sheet and saves it again. What is written is the sheet itself.
-pub fn resave(sheet: &[u8], output: &mut [u8]) -> TextAnswer
-    ensures { written result output.new ≡ resaved sheet.now output.old }
+pub fn resave(sheet: &[u8], output: &mut [u8]) -> Result<u32, TextFault>
+    ensures { written (told result) output.new ≡ resaved sheet.now output.old }
 {
-    let old = blank();
-    let opened = open_sheet(sheet, old);
-    if !opened.read {
-        return TextAnswer {
-            number: opened.number,
-            line: opened.line as usize,
-            bytes: 0,
-        };
-    }
-    let job = opened.job;
-    save_record(job, output)
+    let mut r = blank();
+    open_sheet(sheet, &mut r)?;
+    save_record(r, output)
 }

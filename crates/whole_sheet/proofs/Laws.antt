@@ -5,7 +5,7 @@ use mathlib.Core.List.{List}
 use lib.ListN.{length}
 use Rattle.model_run.specs.{Whole.left_by, Whole.run_sheet, Run.run_job}
 use Rattle.model.specs.{Job.Job, Sheet.accepted, Sheet.refused, Sheet.read_sheet}
-use Rattle.model.specs.declared.Answer.TheVariants.{Refused}
+use Rattle.model.specs.Data.{Refused}
 
 pub accepted-left : (s o : List ℕ) (j : Job) → read_sheet s ≡ accepted j → run_sheet s o ≡ left_by o (run_job j (length o))
 unfolding run_sheet

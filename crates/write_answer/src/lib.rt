@@ -2,45 +2,43 @@
 #![tactic(auto)]
 
 ghost use Rattle.std.specs.Prelude.{◌≡◌, ◌+◌, ◌≤◌, length};
-ghost use Rattle.model.specs.{Placed.placed, Answer.numbers_of, Answer.ending_number, Answer.le32, Answer.all_le32, Answer.bytes_for, Written.low_numbers};
+ghost use Rattle.model.specs.{Placed.placed, Answer.numbers_of, Answer.answer_as, Answer.le32, Answer.all_le32, Answer.bytes_for, Written.low_numbers, Written.told};
 
-use model::{Answer, Ending, NUMBERS, TEXT_NUMBERS, TextAnswer};
-
-fn ending_number(e: Ending) -> u32
-    ensures { result ≡ ending_number e }
-{
-    match e {
-        Ending::Stopped => 0,
-        Ending::LettersUsed => 31,
-        Ending::NoRoom => 32,
-    }
-}
+use model::{Ended, Fault, NUMBERS, TEXT_NUMBERS, TextFault};
 
 // The seven numbers of a run's answer.
-pub fn numbers(a: Answer) -> [u32; NUMBERS]
-    ensures { result ≡ numbers_of a }
+#[tactic(auto, unfolding(model::specs::Answer::numbers_of))]
+pub fn numbers(run: Result<Ended, Fault>) -> [u32; NUMBERS]
+    ensures { result ≡ numbers_of (answer_as run) }
 {
-    match a {
-        Answer::Ended(e, c) => {
+    match run {
+        Ok(Ended { ending, counts }) => {
             [
-                ending_number(e),
+                u32::from(ending),
                 0,
-                c.positions,
-                c.steps,
-                c.bytes,
-                c.taken,
-                c.clamped,
+                counts.positions,
+                counts.steps,
+                counts.bytes,
+                counts.taken,
+                counts.clamped,
             ]
         }
-        Answer::Refused(n, l) => [n, l, 0, 0, 0, 0, 0],
+        Err(Fault { refusal, line }) => [u32::from(refusal), line, 0, 0, 0, 0, 0],
     }
 }
 
 // The three numbers of the answer to the writing of a text, each as much of it as 32 bits hold.
-pub fn text_numbers(a: TextAnswer) -> [u32; TEXT_NUMBERS]
-    ensures { result ≡ low_numbers a }
+pub fn text_numbers(wrote: Result<u32, TextFault>) -> [u32; TEXT_NUMBERS]
+    ensures { result ≡ low_numbers (told wrote) }
 {
-    [a.number, (a.line % 4294967296) as u32, a.bytes]
+    match wrote {
+        Ok(bytes) => [0, 0, bytes],
+        Err(fault) => [
+            u32::from(fault.refusal),
+            (fault.line % 4294967296) as u32,
+            0,
+        ],
+    }
 }
 
 // Stores x in four bytes from the place at on, low byte first.
@@ -48,10 +46,7 @@ fn put32(dst: &mut [u8], at: usize, x: u32)
     requires { at + 4 ≤ length dst.old }
     ensures { dst.new ≡ placed dst.old at (le32 x) }
 {
-    dst[at] = (x % 256) as u8;
-    dst[at + 1] = (x / 256 % 256) as u8;
-    dst[at + 2] = (x / 65536 % 256) as u8;
-    dst[at + 3] = (x / 16777216 % 256) as u8;
+    dst[at..at + 4].copy_from_slice(&x.to_le_bytes());
 }
 
 // Stores the numbers one after the other, in a memory of just their length.
@@ -59,9 +54,7 @@ pub fn put_numbers(dst: &mut [u8], ns: &[u32])
     requires { length dst.old ≡ bytes_for (length ns.now) }
     ensures { dst.new ≡ all_le32 ns.now }
 {
-    let mut i: usize = 0;
-    while i < ns.len() {
+    for i in 0..ns.len() {
         put32(dst, 4 * i, ns[i]);
-        i += 1;
     }
 }

@@ -1,54 +1,46 @@
--- A command's text as a word and what follows it.
-use mathlib.Core.Path.{◌≡◌, refl, sym, ap, ◌∙◌, subst}
-use mathlib.Core.List.{List, [], ◌∷◌, ◌++◌, append-nil, append_assoc}
+-- A command's text as a word and what follows it, and lines one by one.
+use mathlib.Core.Path.{◌≡◌, refl}
+use mathlib.Core.List.{List, [], ◌∷◌, ◌++◌}
 use Prim.Native.Nat.{ℕ, ◌+◌, ◌<◌, ◌≤◌}
-use lib.{ListN.length, ListN.get_or, ListN.take, ListN.drop, Seq.get_or-take, Seq.length-take-le}
+use native.Mathlib.Numerals.{add-one}
+use lib.{ListN.length, ListN.get_or, ListN.drop, ListN.drop_of_length-le, Seq.drop-cons}
 use Rattle.model.specs.{Text.space, Text.bytes, Text.line_feed, Command.blank, Accepted.row_for}
-use Rattle.model.specs.declared.{Command.Command, Op.Op, Op.TheVariants.Set, Operand.Operand}
+use Rattle.model.specs.declared.{Command.Command, Op.TheVariants.Set, Operand.Operand, Operand.TheVariants.InV}
 use Rattle.model_text.specs.Text.{prefixed, unlines, named, operand_text, operand_texts, command_text, command_line, command_lines}
 use Rattle.model_text.proofs.Texts.{joined-prefixed, unlines-more, unlines-end}
-use Rattle.write_words.specs.Words.{operands_as, following, Worded}
-use Rattle.write_words.specs.declared.Wording.{Wording}
 
--- the letters, and the operands behind them
-pub text-parts : (w : Wording) (c : Command) → Worded w c.op → command_text c ≡ take w.1 w.0 ++ prefixed space (operand_texts (operands_as w.2) c)
+-- the letters of the word's row, and the operands behind them
+pub text_parts : (c : Command) (w : List ℕ) (os : List Operand) → w ≡ (row_for c.op).word → os ≡ (row_for c.op).parts → command_text c ≡ w ++ prefixed space (operand_texts os c)
 unfolding command_text
-text-parts w c h = rw (h.word, h.parts) (joined-prefixed space (row_for c.op).word (operand_texts (row_for c.op).parts c))
+text_parts c w os e f = rw (e, f) (joined-prefixed space (row_for c.op).word (operand_texts (row_for c.op).parts c))
 
 -- `do=`, as the code has it
 abbrev pub do_name : List ℕ
 do_name = 100 ∷ 111 ∷ 61 ∷ []
 
 -- the name with its equals sign, what follows it, the line feed
-pub command-parts : (c : Command) → command_lines (c ∷ []) ≡ do_name ++ (command_text c ++ (line_feed ∷ []))
+pub command_parts : (c : Command) → command_lines (c ∷ []) ≡ do_name ++ (command_text c ++ (line_feed ∷ []))
 unfolding command_lines unlines named bytes
-command-parts c = refl
+command_parts c = refl
 
--- ---- What follows a word
+-- ---- What follows a word, operand by operand
 
-pub following-join : (os ps : List Operand) (c : Command) → following (os ++ ps) c ≡ following os c ++ following ps c
-unfolding prefixed
-following-join [] ps c = refl
-following-join (o ∷ os) ps c =
-    ap (λ (t : List ℕ). space ∷ (operand_text o c ++ t)) (following-join os ps c)
-    ∙ ap (λ (t : List ℕ). space ∷ t) (sym (append_assoc (operand_text o c) (following os c) (following ps c)))
+module _ (c : Command) (os : List Operand) (i : ℕ) where
+  pub operands_more : i < length os → prefixed space (operand_texts (drop i os) c) ≡ (space ∷ operand_text (get_or os i InV) c) ++ prefixed space (operand_texts (drop (i + 1) os) c)
+  unfolding prefixed
+  operands_more h = rw (add-one i, drop-cons os i InV h)
 
-pub following-one : (o : Operand) (c : Command) → following (o ∷ []) c ≡ space ∷ operand_text o c
-unfolding prefixed
-following-one o c = ap (λ (t : List ℕ). space ∷ t) (append-nil (operand_text o c))
+  pub operands_end : length os ≤ i → prefixed space (operand_texts (drop i os) c) ≡ []
+  unfolding prefixed
+  operands_end h = rw (drop_of_length-le os h)
 
--- ---- Lines, of the first count commands that an array holds
+-- ---- Lines, command by command
 
-module _ (commands : List Command) (count : ℕ) (enough : count ≤ length commands) where
-  abbrev cs : List Command
-  cs = take count commands
-
-  pub commands-more : (i : ℕ) → i < count → command_lines (drop i cs) ≡ command_lines (get_or commands i (blank Set) ∷ []) ++ command_lines (drop (i + 1) cs)
+module _ (cs : List Command) (i : ℕ) where
+  pub commands_more : i < length cs → command_lines (drop i cs) ≡ command_lines (get_or cs i (blank Set) ∷ []) ++ command_lines (drop (i + 1) cs)
   unfolding command_lines
-  commands-more i h =
-      unlines-more command_line cs i (blank Set) (rw (length-take-le count commands enough) h)
-      ∙ ap (λ (c : Command). command_lines (c ∷ []) ++ command_lines (drop (i + 1) cs)) (get_or-take count commands i (blank Set) h)
+  commands_more h = unlines-more command_line cs i (blank Set) h
 
-  pub commands-end : (i : ℕ) → count ≤ i → command_lines (drop i cs) ≡ []
+  pub commands_end : length cs ≤ i → command_lines (drop i cs) ≡ []
   unfolding command_lines
-  commands-end i h = unlines-end command_line cs i (rw (length-take-le count commands enough) h)
+  commands_end h = unlines-end command_line cs i h

@@ -21,14 +21,14 @@ keys_name = 10 ∷ 107 ∷ 101 ∷ 121 ∷ 115 ∷ 61 ∷ []
 abbrev pub secret_name : List ℕ
 secret_name = 115 ∷ 101 ∷ 99 ∷ 114 ∷ 101 ∷ 116 ∷ 61 ∷ []
 
-pub form-parts : (n : ℕ) → form_text n ≡ sheet_name ++ (natural n ++ keys_name)
+pub form_parts : (n : ℕ) → form_text n ≡ sheet_name ++ (natural n ++ keys_name)
 unfolding form_text bytes
-form-parts n = refl
+form_parts n = refl
 
-pub head-parts : (n K : ℕ) → head_lines n K ≡ form_text n ++ (natural K ++ (line_feed ∷ []))
+pub head_parts : (n K : ℕ) → head_lines n K ≡ form_text n ++ (natural K ++ (line_feed ∷ []))
 unfolding head_lines unlines named bytes form_text
-head-parts n K = ap (λ (x : List ℕ). sheet_name ++ x) (sym (append_assoc (natural n) keys_name (natural K ++ (line_feed ∷ []))))
+head_parts n K = ap (λ (x : List ℕ). sheet_name ++ x) (sym (append_assoc (natural n) keys_name (natural K ++ (line_feed ∷ []))))
 
-pub secret-parts : (two : Bool) (k : ℕ) (o : Owner) (d : ℤ) → secret_ended two k o d ≡ secret_name ++ (pair_text (k, d) ++ (owner_text two o ++ (line_feed ∷ [])))
+pub secret_parts : (two : Bool) (k : ℕ) (o : Owner) (d : ℤ) → secret_ended two k o d ≡ secret_name ++ (pair_text (k, d) ++ (owner_text two o ++ (line_feed ∷ [])))
 unfolding named bytes secret_text
-secret-parts two k o d = ap (λ (x : List ℕ). secret_name ++ x) (append_assoc (pair_text (k, d)) (owner_text two o) (line_feed ∷ []))
+secret_parts two k o d = ap (λ (x : List ℕ). secret_name ++ x) (append_assoc (pair_text (k, d)) (owner_text two o) (line_feed ∷ []))

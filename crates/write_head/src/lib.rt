@@ -12,6 +12,7 @@ use write_messages::put_pair;
 use write_text::{put_byte, put_natural, put_word};
 
 // `sheet=`, the number of the form, a line feed and `keys=`
+#[tactic(auto, using(write_text::proofs::Laws::room_first, crate::proofs::Laws::form_parts))]
 fn put_form(out: &mut [u8], at: usize, form: u64) -> usize
     requires { (form ≤ forms) × Room out.old at (form_text form) }
     ensures { Put out.old at (form_text form) out.new result }
@@ -41,6 +42,7 @@ fn owner_letter(owner: Owner) -> u8
 }
 
 // A colon and the owner, where it is named.
+#[tactic(auto, using(write_text::proofs::Laws::rooms, write_text::proofs::Laws::put_nothing))]
 fn put_owner(out: &mut [u8], at: usize, owners: bool, owner: Owner) -> usize
     requires { Room out.old at (owner_text owners owner) }
     ensures { Put out.old at (owner_text owners owner) out.new result }
@@ -52,6 +54,7 @@ fn put_owner(out: &mut [u8], at: usize, owners: bool, owner: Owner) -> usize
     at
 }
 
+#[tactic(auto, using(write_text::proofs::Laws::room_first, crate::proofs::Laws::secret_parts))]
 pub fn put_secret(
     out: &mut [u8],
     at: usize,

@@ -1,28 +1,19 @@
 -- The parts of a sent line, placed one after the other.
-use mathlib.Core.Path.{◌≡◌, refl, sym, ap, ap₂, ◌∙◌}
+use mathlib.Core.Path.{◌≡◌, sym, ap, ap₂, ◌∙◌}
 use mathlib.Core.List.{List, [], ◌∷◌, ◌++◌, append_assoc}
-use Prim.Native.Nat.{ℕ, zero, suc, ◌+◌, ◌-◌, ◌*◌, ◌≤◌, ◌<◌}
-use native.Mathlib.{Omega.arith, Nat.le_of_suc-le-suc, Nat.not-suc-le-zero, Nat.add-zero, Nat.zero-add, Numerals.add-one}
-use lib.{ListN.length, ListN.get_or, ListN.drop, ListN.set, ListN.replicate, ListN.length-append, ListN.drop_of_length-le, Seq.drop-cons}
-use Rattle.model.specs.{Text.line_feed, Text.space, Text.dot, Placed.placed, Stored.key_in, Stored.keys_in, Stored.side, Stored.held, Stored.open_slot, Stored.absent_field}
-use Rattle.model_run.specs.{Message.source, Message.columns, Line.cell, Line.cells, Line.heading, Line.line_bytes}
+use Prim.Native.Nat.{ℕ, suc, ◌+◌, ◌*◌, ◌≤◌, ◌<◌}
+use native.Mathlib.{Omega.arith, Nat.zero-add, Numerals.add-one}
+use lib.{ListN.length, ListN.get_or, ListN.drop, ListN.set, ListN.length-append, ListN.drop_of_length-le, Seq.drop-cons}
+use Rattle.model.specs.{Text.line_feed, Text.space, Placed.placed, Stored.key_in, Stored.keys_in, Stored.side, Stored.held, Stored.open_slot, Stored.absent_field}
+use Rattle.model_run.specs.{Message.source, Line.cell, Line.cells, Line.heading, Line.line_bytes}
 use Rattle.model.specs.declared.{Entry.Entry, Entry.TheVariants.Absent, Field.Field, Key.Key, Key.TheVariants.Open, Level.Level, KeySlot.KeySlot}
 use Rattle.model.specs.declared.Owner.TheVariants.{A, B}
 use Rattle.model.specs.declared.Level.TheVariants.{Low, High}
 use Rattle.model_run.proofs.Message as Message
 use Rattle.model_run.proofs.{Line.cell-length, Line.cells-length, Line.heading-length}
 use Rattle.model.proofs.{Stored.first-at, Stored.first_count}
-use Rattle.model.proofs.Placed.{placed-append, placed-nil, placed-cons, placed-next}
+use Rattle.model.proofs.Placed.{placed-append, placed-nil, placed-cons}
 use Rattle.write_line.specs.Line.{columns_in, line_of}
-
--- a dot stored
-pub dots-turn : (out : List ℕ) (p n : ℕ) → 0 < n → placed (set out p dot) (p + 1) (replicate (n - 1) dot) ≡ placed out p (replicate n dot)
-dots-turn out p n some =
-    let e : suc (n - 1) ≡ n = omega arith in
-    placed-cons out p dot (replicate (n - 1) dot) ∙ ap (λ (m : ℕ). placed out p (replicate m dot)) e
-
-pub dots-end : (out : List ℕ) (p n : ℕ) → n ≡ 0 → placed out p (replicate n dot) ≡ out
-dots-end out p n none = ap (λ (m : ℕ). placed out p (replicate m dot)) none ∙ placed-nil out p
 
 -- ---- The columns
 
@@ -75,16 +66,6 @@ module _ (at : ℕ) (es : List Entry) where
   cells-end out k h = ap (λ (l : List Entry). placed out (cell_at k) (cells l)) (drop_of_length-le es h) ∙ placed-nil out (cell_at k)
 
 -- ---- The line
-
--- five bytes stored, and a list placed after them
-pub five-placed : (out : List ℕ) (at a b c d e : ℕ) (s : List ℕ)
-    → placed (set (set (set (set (set out at a) (at + 1) b) (at + 2) c) (at + 3) d) (at + 4) e) (at + 5) s ≡ placed out at (a ∷ b ∷ c ∷ d ∷ e ∷ s)
-five-placed out at a b c d e s =
-    placed-next _ (at + 4) (at + 5) e s (omega arith)
-    ∙ placed-next _ (at + 3) (at + 4) d (e ∷ s) (omega arith)
-    ∙ placed-next _ (at + 2) (at + 3) c (d ∷ e ∷ s) (omega arith)
-    ∙ placed-next _ (at + 1) (at + 2) b (c ∷ d ∷ e ∷ s) (omega arith)
-    ∙ placed-cons out at a (b ∷ c ∷ d ∷ e ∷ s)
 
 -- the heading, the cells and the line feed make the line
 line-written : (out h o : List ℕ) (at n keys : ℕ) (es : List Entry) → length es ≡ keys

@@ -1,3 +1,2 @@
 -- The laws of what is written into a memory.
-pub mod Signs
 pub mod Laws

@@ -7,8 +7,9 @@ ghost use Rattle.model.specs.{Text.line_feed, Text.space, Text.dot, Decimal.digi
 ghost use Rattle.model_run.specs.{Message.source, Line.sign as Output·sign, Line.cell as Output·cell, Line.heading as Output·heading};
 
 use model::{Entry, Field, Key, KeySlot, Owner};
-use write_text::{magnitude, spell};
+use write_text::spell;
 
+#[tactic(auto, unfolding(model_run::specs::Line::sign))]
 fn sign(x: i32) -> u8
     ensures { result ≡ Output·sign x }
 {
@@ -21,22 +22,17 @@ fn print(out: &mut [u8], at: usize, x: i32)
     ensures { out.new ≡ placed out.old at (Output·sign x ∷ digits 10 (nat_abs x)) }
 {
     out[at] = sign(x);
-    spell(out, at + 1, 10, magnitude(x));
+    spell(out, at + 1, 10, x.unsigned_abs());
 }
 
 fn dots(out: &mut [u8], at: usize)
     requires { at + 11 ≤ length out.old }
     ensures { out.new ≡ placed out.old at (replicate 11 dot) }
 {
-    let mut p = at;
-    let mut more: usize = 11;
-    while more > 0 {
-        out[p] = b'.';
-        p += 1;
-        more -= 1;
-    }
+    out[at..at + 11].fill(b'.');
 }
 
+#[tactic(auto, unfolding(model_run::specs::Line::cell))]
 fn cell(out: &mut [u8], at: usize, e: Entry)
     requires { at + 11 ≤ length out.old }
     ensures { out.new ≡ placed out.old at (Output·cell e) }
@@ -57,18 +53,14 @@ fn spaced_cell(out: &mut [u8], at: usize, e: Entry)
 }
 
 // The field that goes into a key's column.
+#[tactic(auto, unfolding(model_run::specs::Message::source))]
 fn column(key: Key, f: Field) -> Entry
     ensures { result ≡ side (source key) f }
 {
-    let low = f.low;
-    let a = f.a;
-    let b = f.b;
     match key {
-        Key::Open => low,
-        Key::Secret(owner, _) => match owner {
-            Owner::A => a,
-            Owner::B => b,
-        },
+        Key::Open => f.low,
+        Key::Secret(Owner::A, _) => f.a,
+        Key::Secret(Owner::B, _) => f.b,
     }
 }
 
@@ -77,8 +69,7 @@ pub fn key_cell(out: &mut [u8], at: usize, k: usize, slot: KeySlot, f: Field)
     requires { (k < key_capacity) × (at + (9 + 12 * k) + 12 ≤ length out.old) }
     ensures { out.new ≡ placed out.old (at + (9 + 12 * k)) (space ∷ Output·cell (side (source slot.key) f)) }
 {
-    let key = slot.key;
-    spaced_cell(out, at + (9 + 12 * k), column(key, f));
+    spaced_cell(out, at + (9 + 12 * k), column(slot.key, f));
 }
 
 // The heading of a line that starts at the place at.
@@ -86,11 +77,7 @@ pub fn heading(out: &mut [u8], at: usize, position: usize)
     requires { (at + 9 ≤ length out.old) × (position < 10000) }
     ensures { out.new ≡ placed out.old at (Output·heading position) }
 {
-    out[at] = b's';
-    out[at + 1] = b'e';
-    out[at + 2] = b'n';
-    out[at + 3] = b't';
-    out[at + 4] = b'=';
+    out[at..at + 5].copy_from_slice(b"sent=");
     spell(out, at + 5, 4, position as u32);
 }
 

@@ -4,12 +4,11 @@ use mathlib.Core.Path.{◌≡◌, refl, sym, ap, ◌∙◌}
 use mathlib.Core.Bool.{Bool, true, false}
 use mathlib.Core.List.{List, [], ◌∷◌, ◌++◌, map}
 use native.Mathlib.Numerals.{add-one}
-use lib.{ListN.length, ListN.get_or, ListN.take, ListN.drop, ListN.length-map, ListN.get_or-map, ListN.drop_of_length-le, Seq.drop-cons}
-use lib.{Seq.get_or-take, Seq.length-take-le, IntN.ℤ}
-use Rattle.model.specs.{Text.bytes, Text.comma, Text.line_feed, Stored.first_of, Stored.entry_in, Stored.entries_in, Stored.absent_slot}
+use lib.{ListN.length, ListN.get_or, ListN.drop, ListN.length-map, ListN.get_or-map, ListN.drop_of_length-le, Seq.drop-cons}
+use lib.{IntN.ℤ}
+use Rattle.model.specs.{Text.bytes, Text.comma, Text.line_feed, Stored.entry_in, Stored.entries_in, Stored.absent_slot}
 use Rattle.model.specs.declared.{Entry.Entry, EntrySlot.EntrySlot, MessageLine.MessageLine}
 use Rattle.model.specs.declared.Entry.TheVariants.{Absent, Number}
-use Rattle.model.proofs.Stored.{first-at, first_count}
 use Rattle.model_text.specs.Text.{joined, prefixed, unlines, named, pair_text, pairs, message_text, message_line, message_lines}
 use Rattle.model_text.proofs.Texts.{joined-prefixed, unlines-more, unlines-end}
 use Rattle.write_messages.specs.Messages.{part_text, line_text}
@@ -40,29 +39,29 @@ pub parts_all : (es : List Entry) → parts_from true 0 es ≡ message_text es
 unfolding message_text
 parts_all es = parts-joined 0 es
 
--- ---- One key more, of the first n entries that an array holds
+-- ---- One key more, of the entries that an array holds
 
-module _ (n : ℕ) (slots : List EntrySlot) (enough : n ≤ length slots) where
+module _ (slots : List EntrySlot) where
   abbrev es : List Entry
-  es = first_of entry_in n slots
+  es = map entry_in slots
 
-  here : (k : ℕ) → k < n → drop k es ≡ (get_or slots k absent_slot).entry ∷ drop (k + 1) es
+  here : (k : ℕ) → k < length slots → drop k es ≡ (get_or slots k absent_slot).entry ∷ drop (k + 1) es
   here k h =
-      let l : k < length es = rw (first_count entry_in n slots enough) h in
-      rw (add-one k, drop-cons es k Absent l, first-at entry_in n slots k absent_slot h)
+      let l : k < length es = rw (length-map slots entry_in) h in
+      rw (add-one k, drop-cons es k Absent l, get_or-map entry_in slots k absent_slot)
 
-  pub parts_none : (first : Bool) (k : ℕ) → k < n → (get_or slots k absent_slot).entry ≡ Absent → parts_from first k (drop k es) ≡ parts_from first (k + 1) (drop (k + 1) es)
+  pub parts_none : (first : Bool) (k : ℕ) → k < length slots → (get_or slots k absent_slot).entry ≡ Absent → parts_from first k (drop k es) ≡ parts_from first (k + 1) (drop (k + 1) es)
   unfolding parts_from
   parts_none first k h e = rw (here k h, e, add-one k)
 
-  pub parts-one : (first : Bool) (k : ℕ) (z : ℤ) → k < n → (get_or slots k absent_slot).entry ≡ Number z
+  pub parts_one : (first : Bool) (k : ℕ) (z : ℤ) → k < length slots → (get_or slots k absent_slot).entry ≡ Number z
       → parts_from first k (drop k es) ≡ part_text first k z ++ parts_from false (k + 1) (drop (k + 1) es)
   unfolding parts_from
-  parts-one first k z h e = rw (here k h, e, add-one k)
+  parts_one first k z h e = rw (here k h, e, add-one k)
 
-  pub parts-end : (first : Bool) (k : ℕ) → n ≤ k → parts_from first k (drop k es) ≡ []
+  pub parts_end : (first : Bool) (k : ℕ) → length slots ≤ k → parts_from first k (drop k es) ≡ []
   unfolding parts_from
-  parts-end first k h = let l : length es ≤ k = rw (first_count entry_in n slots enough) h in rw (drop_of_length-le es l)
+  parts_end first k h = let l : length es ≤ k = rw (length-map slots entry_in) h in rw (drop_of_length-le es l)
 
 -- ---- The line
 
@@ -71,28 +70,27 @@ abbrev pub name : List ℕ
 name = 109 ∷ 115 ∷ 103 ∷ 61 ∷ []
 
 -- the name with its equals sign, what follows it, the line feed
-pub line-parts : (es : List Entry) → line_text es ≡ name ++ (message_text es ++ (line_feed ∷ []))
+pub line_parts : (m : List Entry) → line_text m ≡ name ++ (message_text m ++ (line_feed ∷ []))
 unfolding named bytes
-line-parts es = refl
+line_parts m = refl
 
 -- what the code would read behind its array
 abbrev pub no_line : MessageLine
 no_line = record { slots = [] }
 
-module _ (K : ℕ) (messages : List MessageLine) (count : ℕ) (enough : count ≤ length messages) where
+module _ (K : ℕ) (messages : List MessageLine) where
   abbrev ms : List (List Entry)
-  ms = map (entries_in K) (take count messages)
+  ms = map (entries_in K) messages
 
-  size : length ms ≡ count
-  size = length-map (take count messages) (entries_in K) ∙ length-take-le count messages enough
+  size : length ms ≡ length messages
+  size = length-map messages (entries_in K)
 
-  pub lines_more : (i : ℕ) → i < count → message_lines (drop i ms) ≡ line_text (entries_in K (get_or messages i no_line)) ++ message_lines (drop (i + 1) ms)
+  pub lines_more : (i : ℕ) → i < length messages → message_lines (drop i ms) ≡ line_text (entries_in K (get_or messages i no_line)) ++ message_lines (drop (i + 1) ms)
   unfolding message_lines unlines
   lines_more i h =
-      let e : get_or ms i (entries_in K no_line) ≡ entries_in K (get_or messages i no_line) =
-      get_or-map (entries_in K) (take count messages) i no_line ∙ ap (entries_in K) (get_or-take count messages i no_line h) in
-      unlines-more message_line ms i (entries_in K no_line) (rw size h) ∙ ap (λ (es : List Entry). line_text es ++ message_lines (drop (i + 1) ms)) e
+      unlines-more message_line ms i (entries_in K no_line) (rw size h)
+      ∙ ap (λ (es : List Entry). line_text es ++ message_lines (drop (i + 1) ms)) (get_or-map (entries_in K) messages i no_line)
 
-  pub lines_end : (i : ℕ) → count ≤ i → message_lines (drop i ms) ≡ []
+  pub lines_end : (i : ℕ) → length messages ≤ i → message_lines (drop i ms) ≡ []
   unfolding message_lines
   lines_end i h = unlines-end message_line ms i (rw size h)

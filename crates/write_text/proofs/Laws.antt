@@ -2,14 +2,16 @@
 use mathlib.Core.Path.{◌≡◌, refl, sym, ap, ap₂, ◌∙◌}
 use mathlib.Core.Logic.{◌⊎◌, inl, inr, ⊎_elim}
 use mathlib.Core.List.{List, [], ◌∷◌, ◌++◌}
-use Prim.Native.Nat.{ℕ, zero, suc, ◌+◌, ◌*◌, ◌/◌, ◌<◌, ◌≤◌}
-use native.Mathlib.{Omega.arith, Decide.dec_lt, Numerals.add-one}
-use lib.{ListN.length, ListN.get_or, ListN.drop, ListN.set, ListN.length-append, ListN.drop_of_length-le, Seq.set_out, Seq.drop-cons, IntN.ℤ, IntN.pos, IntN.negsuc}
+use Prim.Native.Nat.{ℕ, zero, suc, ◌+◌, ◌/◌, ◌<◌, ◌≤◌}
+use native.Mathlib.{Omega.arith}
+use lib.{ListN.length, ListN.take, ListN.drop, ListN.set, ListN.length-append, Seq.set_out, IntN.ℤ, IntN.pos, IntN.negsuc}
 use lib.{IntN.nat_abs, Signed.lt_z}
 use borrow.Author.Tests.{lt-ltb, le-ltb}
-use Rattle.model.specs.{Placed.placed, Decimal.width_to, Decimal.width, Decimal.most_digits, Decimal.natural, Decimal.whole, Written.text, Written.written}
+use Rattle.model.specs.{Placed.placed, Decimal.digits, Decimal.width_to, Decimal.width, Decimal.most_digits, Decimal.natural, Decimal.whole, Written.text, Written.written}
 use Rattle.model.specs.Written.{write}
-use Rattle.model.proofs.{Placed.placed-nil, Placed.placed-append, Placed.placed-length, Placed.placed-front, Decimal.tens, Decimal.tens-last, Decimal.tens-most}
+use borrow.Rule.Slice.PartMut.{put_mid}
+use Rattle.std.proofs.Common.{drop-drop}
+use Rattle.model.proofs.{Placed.placed-nil, Placed.placed-between, Placed.placed-append, Placed.placed-length, Placed.placed-front, Decimal.tens, Decimal.tens-most}
 use Rattle.model.proofs.{Decimal.digits-length, Written.write-fits}
 use Rattle.write_text.specs.Put.{Put, Room, signed}
 
@@ -25,8 +27,8 @@ pub put-length : {d d' s : List ℕ} {at p : ℕ} → Put d at s d' p → length
 put-length {d} {d'} {s} {at} h = ap length h.memory ∙ placed-length d at s
 
 -- there is room for the first part of a text, and behind it for the other
-pub room-first : {d : List ℕ} {at : ℕ} (s t : List ℕ) → Room d at (s ++ t) → Room d at s
-room-first s t r =
+pub room_first : {d : List ℕ} {at : ℕ} (s t : List ℕ) → Room d at (s ++ t) → Room d at s
+room_first s t r =
     let l = length-append s t in
     record { near = omega (arith, r.near); fits = ⊎_elim inl (λ h. inr (omega arith)) r.fits }
 
@@ -36,31 +38,54 @@ room_next s t r h =
     let n = put-length h in
     record { near = omega (arith, r.near, h.next); fits = ⊎_elim (λ e. inl (n ∙ e)) (λ e. inr (omega (arith, h.next))) r.fits }
 
+pub ruleset rooms = (room_first, room_next)
+
+-- a text in three parts
+module _ {d d' : List ℕ} {at p : ℕ} (s t u : List ℕ) {all : List ℕ} (e : all ≡ s ++ (t ++ u)) where
+  pub room_second : Room d at all → Put d at s d' p → Room d' p t
+  room_second r h = room_first t u (room_next s (t ++ u) (rw e at r) h)
+
+  pub room_third : {d'' : List ℕ} {q : ℕ} → Room d at all → Put d at s d' p → Put d' p t d'' q → Room d'' q u
+  room_third r h k = room_next t u (room_next s (t ++ u) (rw e at r) h) k
+
+  pub put_three : {d'' o : List ℕ} {q r : ℕ} → Put d at s d' p → Put d' p t d'' q → Put d'' q u o r → Put d at all o r
+  put_three h k l = rw e (put_then h (put_then k l))
+
 -- the memory has room for the whole text from one of its places on
-pub room-inside : {d s : List ℕ} {at : ℕ} → Room d at s → at < length d → at + length s ≤ length d
-room-inside r h = ⊎_elim (λ e. absurd (omega arith)) (λ e. e) r.fits
+pub room_inside : {d s : List ℕ} {at : ℕ} → Room d at s → at < length d → at + length s ≤ length d
+room_inside r h = ⊎_elim (λ e. absurd (omega arith)) (λ e. e) r.fits
+
+-- a part of the memory that is now a text
+pub placed_part : (d : List ℕ) (at : ℕ) {s t : List ℕ} {k : ℕ} → t ≡ s → k ≡ length s → at + length s ≤ length d → put_mid at k d t ≡ placed d at s
+placed_part d at {s} {t} {k} e n fits =
+    ap (λ (x : List ℕ). take at d ++ (x ++ drop k (drop at d))) e
+    ∙ ap (λ (x : List ℕ). take at d ++ (s ++ x)) (drop-drop k at d ∙ ap (λ (m : ℕ). drop m d) (omega arith))
+    ∙ sym (placed-between d at s fits)
+
+pub put_part : (d : List ℕ) (at : ℕ) (s t : List ℕ) (k : ℕ) → t ≡ s → k ≡ length s → at + length s ≤ length d → Put d at s (put_mid at k d t) (at + length s)
+put_part d at s t k e n fits = record { memory = placed_part d at e n fits; next = refl }
 
 -- no text at all
-pub put-nothing : (d : List ℕ) (at : ℕ) → Put d at [] d at
-put-nothing d at = record { memory = sym (placed-nil d at); next = omega arith }
+pub put_nothing : (d : List ℕ) (at : ℕ) → Put d at [] d at
+put_nothing d at = record { memory = sym (placed-nil d at); next = omega arith }
 
 -- a byte at its place, and a text that begins where the memory has ended
-pub put-inside : (d : List ℕ) (at b : ℕ) → Put d at (b ∷ []) (set d at b) (at + 1)
+pub put_inside : (d : List ℕ) (at b : ℕ) → Put d at (b ∷ []) (set d at b) (at + 1)
 unfolding placed
-put-inside d at b = record { memory = refl; next = refl }
+put_inside d at b = record { memory = refl; next = refl }
 
 placed-outside : (d : List ℕ) (at : ℕ) (s : List ℕ) → length d ≤ at → placed d at s ≡ d
 unfolding placed
 placed-outside d at [] h = refl
 placed-outside d at (b ∷ s) h = rw (set_out d at b h) (placed-outside d (suc at) s (omega arith))
 
-pub put-outside : (d : List ℕ) (at : ℕ) (s : List ℕ) (p : ℕ) → length d ≤ at → p ≡ at + length s → Put d at s d p
-put-outside d at s p h e = record { memory = sym (placed-outside d at s h); next = e }
+pub put_outside : (d : List ℕ) (at : ℕ) (s : List ℕ) (p : ℕ) → length d ≤ at → p ≡ at + length s → Put d at s d p
+put_outside d at s p h e = record { memory = sym (placed-outside d at s h); next = e }
 
 -- ---- The width of a number
 
 -- no number of v digits reaches n, or v is 0
-abbrev Reached : ℕ → ℕ → Type 0
+abbrev pub Reached : ℕ → ℕ → Type 0
 Reached v n = (v ≡ 0) ⊎ (tens v ≤ n)
 
 width_is : (v f n : ℕ) → v ≤ f → n < tens (suc v) → Reached v n → width_to (suc f) n ≡ suc v
@@ -77,75 +102,33 @@ width_is (suc v) (suc f) n l h r =
     reached zero k = inl refl
     reached (suc u) k = inr (omega arith)
 
--- n has more than before digits, and above is the least number that has more than one more
-pub record Counting (n w above : ℕ) : Type 0 where
-  pub before : ℕ
-  pub digits : w ≡ suc before
-  pub few : before < most_digits
-  pub least : above ≡ tens (suc before)
-  pub reached : Reached before n
-
-pub counting-begins : (n : ℕ) → Counting n 1 10
-unfolding tens
-counting-begins n = record { before = 0; digits = refl; few = omega arith; least = refl; reached = inl refl }
-
-pub counting-again : (n w above : ℕ) → n < 4294967296 → above ≤ n → Counting n w above → Counting n (w + 1) (above * 10)
-unfolding tens
-counting-again n w above small h c =
-    record {
-      before = suc c.before;
-      digits = omega (arith, c.digits);
-      few = go (dec_lt (suc c.before) most_digits);
-      least = ap (λ (x : ℕ). x * 10) c.least;
-      reached = inr (omega (arith, c.least));
-    }
-  where
-    go : Dec (suc c.before < most_digits) → suc c.before < most_digits
-    go (yes l) = l
-    go (no l) =
-        let nine : suc c.before ≡ most_digits = omega (arith, c.few) in
-        absurd (omega (arith, tens-last, c.least, ap tens nine))
-
-pub counting-ends : (n w above : ℕ) → n < above → Counting n w above → w ≡ width n
+-- and so many digits more than one have a number of the range
+pub width-found : (v n : ℕ) → v < most_digits → n < tens (suc v) → Reached v n → suc v ≡ width n
 unfolding width
-counting-ends n w above h c = c.digits ∙ sym (width_is c.before 9 n (omega (arith, c.few)) (omega (arith, c.least)) c.reached)
-
-pub counting-some : (n w above : ℕ) → Counting n w above → 10 ≤ above
-counting-some n w above c = omega (arith, c.least, tens-most c.before)
-
-pub counting-few : (n w above : ℕ) → Counting n w above → w ≤ most_digits
-counting-few n w above c = omega (arith, c.digits, c.few)
-
--- ---- A word, byte by byte
-
-module _ (word : List ℕ) (at i : ℕ) where
-  pub word_room : {d d' : List ℕ} (b : ℕ) → Room d at word → length d' ≡ length d → i < length word → Room d' (at + i) (b ∷ [])
-  word_room b r n h = record { near = omega (arith, r.near); fits = ⊎_elim (λ e. inl (n ∙ e)) (λ e. inr (omega arith)) r.fits }
-
-  pub word-again : {all : List ℕ} (d d' : List ℕ) (p : ℕ) → i < length word → Put d (at + i) (get_or word i 0 ∷ []) d' p → placed d (at + i) (drop i word) ≡ all
-      → placed d' (at + (i + 1)) (drop (i + 1) word) ≡ all
-  word-again d d' p h put before =
-      let rest = drop (i + 1) word in
-      let next : at + (i + 1) ≡ at + i + 1 = omega arith in
-      ap₂ (λ (m : List ℕ) (q : ℕ). placed m q rest) put.memory next
-      ∙ placed-append d (at + i) (get_or word i 0 ∷ []) rest
-      ∙ ap (placed d (at + i)) (sym (drop-cons word i 0 h ∙ ap (λ (n : ℕ). get_or word i 0 ∷ drop n word) (sym (add-one i))))
-      ∙ before
-
-  pub word-ends : {all : List ℕ} (d : List ℕ) → length word ≤ i → placed d (at + i) (drop i word) ≡ all → d ≡ all
-  word-ends d h before = sym (placed-nil d (at + i)) ∙ ap (placed d (at + i)) (sym (drop_of_length-le word h)) ∙ before
+width-found v n few h r = sym (width_is v 9 n (omega arith) h r)
 
 -- ---- Numbers
 
-pub natural-length : (n : ℕ) → length (natural n) ≡ width n
+pub natural_length : (n : ℕ) → length (natural n) ≡ width n
 unfolding natural
-natural-length n = digits-length (width n) n
+natural_length n = digits-length (width n) n
 
--- a number of the full range, by the sign that the machine finds
-pub whole_is : (z : ℤ) → whole z ≡ signed (lt_z z (pos 0)) (nat_abs z)
+-- the digits are a number's text
+pub put_digits : (d : List ℕ) (at w n : ℕ) (d' : List ℕ) → w ≡ width n → d' ≡ placed d at (digits w n) → Put d at (natural n) d' (at + w)
+unfolding natural
+put_digits d at w n d' e h = record { memory = h ∙ ap (λ (x : ℕ). placed d at (digits x n)) e; next = ap (λ (x : ℕ). at + x) (e ∙ sym (natural_length n)) }
+
+-- what is stored where the memory has room for it, and otherwise only counted
+pub ruleset stored = (room_inside, natural_length, put_inside, put_part, put_digits, put_outside)
+
+whole_is : (z : ℤ) → signed (lt_z z (pos 0)) (nat_abs z) ≡ whole z
 unfolding whole
 whole_is (pos n) = rw (le-ltb n 0 (omega arith))
 whole_is (negsuc n) = refl
+
+-- a number of the full range, by the sign and the size that the machine finds
+pub whole_found : {x z : ℤ} {n : ℕ} → z ≡ x → n ≡ nat_abs z → signed (lt_z z (pos 0)) n ≡ whole x
+whole_found {x} {z} {n} e h = ap (signed (lt_z z (pos 0))) h ∙ whole_is z ∙ ap whole e
 
 -- ---- A text of which the rest is still to put
 

@@ -20,7 +20,7 @@ returns-then-answer-ne-ANSWER_BYTES c =
 seven : (c : After-numbers-ns) →
     let a = c.args in
     c.numbers-ns.result ≡ numbers_of (run_sheet a.sheet.now a.output.now).answer
-seven c = c.numbers-ns.ensures ∙ ap (λ (x : Left). numbers_of x.answer) c.run_sheet-a.ensures
+seven c = c.numbers-ns.ensures ∙ ap (λ (x : Left). numbers_of x.answer) c.run_sheet.ensures
 
 pub returns : goal.returns
 unfolding run_entry
@@ -30,5 +30,5 @@ returns c =
     let a = ns.args in
     leaves (entered-sized number_count a.output.now a.answer.now (answered_by (run_sheet a.sheet.now a.output.now)) (search rules))
     (ap (λ (l : List ℕ). get_or l 0 0) (seven ns))
-    (ap (λ (x : Left). x.memory) ns.run_sheet-a.ensures)
+    (ap (λ (x : Left). x.memory) ns.run_sheet.ensures)
     (put.put_numbers.ensures ∙ ap all_le32 (seven ns))

@@ -1,6 +1,6 @@
 -- The parts of the number one by one.
 use mathlib.Core.Path.{◌∙◌}
-use borrow.Author.Rules.{rules, sfits_of}
+use borrow.Author.Rules.{sfits_of}
 use mir.{Syntax.w32, ValLaws.to_z-of_z}
 use Rattle.pack_command.proofs.Laws.{parts}
 use Rattle.pack_command.proofs.unpack.Goals as goal

@@ -1,6 +1,5 @@
 -- The target is as near as a command can have it.
 use mathlib.Core.Path.{ap}
-use borrow.Author.Rules.{rules}
 use Rattle.model_blocks.specs.Block.{jump_to}
 use Rattle.read_blocks.proofs.jump_to.Goals as goal
 

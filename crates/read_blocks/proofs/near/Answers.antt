@@ -1,5 +1,5 @@
 -- The two cases of the test.
-use borrow.Author.{Rules.rules, Tests.lt-ltb, Tests.le-ltb}
+use borrow.Author.{Tests.lt-ltb, Tests.le-ltb}
 use Rattle.read_blocks.specs.Blocks.{near_by}
 use Rattle.read_blocks.proofs.near.Goals as goal
 

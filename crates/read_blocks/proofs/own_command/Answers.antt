@@ -1,22 +1,28 @@
 -- By what the table says of the word.
-use mathlib.Core.Path.{◌∙◌, sym}
-use native.Mathlib.Omega.{arith}
-use borrow.Author.Rules.{rules}
+use Rattle.std.proofs.Common.{◌≡◌, ◌∙◌, sym, arith, take}
+use Rattle.model.specs.Command.{table}
+use Rattle.model.proofs.Handed.{refused-handed}
+use Rattle.read_command.specs.Code.{lookup, lookup_code}
 use Rattle.read_command.proofs.Words.{lookup-at}
-use Rattle.read_blocks.proofs.Words.{own-left-out, own-by-word}
+use Rattle.read_blocks.proofs.Words.{own-unknown, own-left-out, own-by-word}
 use Rattle.read_blocks.proofs.own_command.Goals as goal
+use Rattle.read_blocks.proofs.own_command.Goals.{After-word_by_code}
+
+-- the number of the word is asked
+asked : (c : After-word_by_code) → lookup_code table c.args.w.code ≡ lookup (take c.args.w.end c.args.l.now)
+asked c = lookup-at _ _ _ (λ i. omega (arith, c.type_inv.l i)) c.requires.3
+
+pub returns-in_err-op : goal.returns-in_err-op
+returns-in_err-op c = refused-handed _ _ c.from_residual.ensures.1 ∙ own-unknown _ _ _ (c.in_err-op.ensures ∙ asked (goal.at.returns-in_err-op c).After-word_by_code)
 
 pub returns-then-is_left_out : goal.returns-then-is_left_out
 returns-then-is_left_out c =
-    let s = c in
-    let b = lookup-at s.args.l.now s.args.e _ (λ i. omega (arith, c.shared_slice_known-1.given i)) s.requires.3 in
-    sym (own-left-out _ _ _ _ (c.word_by_code-word.ensures ∙ b) (sym c.if-is_left_out.true ∙ c.is_left_out.ensures))
+    sym (own-left-out _ _ _ _ _ (c.in_ok-op.ensures ∙ asked (goal.at.returns-then-is_left_out c).After-word_by_code) (sym c.if-is_left_out.true ∙ c.is_left_out.ensures))
 
 pub returns : goal.returns
 returns c =
-    let s = c in
-    let b = lookup-at s.args.l.now s.args.e _ (λ i. omega (arith, c.shared_slice_known-1.given i)) s.requires.3 in
-    c.read_operands.ensures ∙ sym (own-by-word _ _ _ _ (c.word_by_code-word.ensures ∙ b) (sym c.if-is_left_out.false ∙ c.is_left_out.ensures))
+    c.read_operands.ensures
+    ∙ sym (own-by-word _ _ _ _ _ (c.in_ok-op.ensures ∙ asked (goal.at.returns c).After-word_by_code) (sym c.if-is_left_out.false ∙ c.is_left_out.ensures))
 
 pub read_operands-requires : goal.read_operands-requires
 read_operands-requires c = let h = c.requires in record { some = h.0; few = omega arith; near = omega arith }

@@ -1,39 +1,37 @@
 -- The command is kept, and the next line follows; or the line is refused.
-use mathlib.Core.Path.{refl, sym, ap, ◌∙◌}
-use native.Mathlib.Omega.{arith}
-use borrow.Author.Rules.{rules}
-use Rattle.read_command.specs.Command.{line_as}
-use Rattle.read_blocks.specs.Blocks.{OwnRead}
+use Rattle.std.proofs.Common.{◌≡◌, ◌∙◌, sym, ap, arith, rules, take}
+use Rattle.model.specs.{Parsed.got, Refusal.parsed}
+use Rattle.model.specs.declared.TextFault.{TextFault}
+use Rattle.model_blocks.specs.Dialect.{own_command}
+use Rattle.read_command.specs.Command.{parts_after}
+use Rattle.read_blocks.specs.Blocks.{OwnRead, fault}
 use Rattle.read_blocks.proofs.Words.{own-packable, own-long}
+use Rattle.read_blocks.proofs.Items.{exits, mapped_err, mapped_ok, own-fails}
 use Rattle.read_blocks.proofs.read_own.Goals as goal
-use Rattle.read_blocks.proofs.read_own.Goals.{After-keep}
+use Rattle.read_blocks.proofs.read_own.Goals.{In_ok-c}
+
+-- the line says a command
+said : (c : In_ok-c) → own_command c.args.keys (take c.args.w.end c.args.l.now) (parts_after c.args.w.end c.args.l.now) ≡ got c.in_ok-c.c
+said c = sym c.own_command.ensures ∙ ap parsed (mapped_ok _ _ _ c.in_ok-c.ensures.cases c.in_ok-c.ensures.variant)
+
+pub returns-in_err-c : goal.returns-in_err-c
+unfolding OwnRead
+returns-in_err-c c =
+    let h = mapped_err _ _ _ c.in_err-c.ensures.cases c.in_err-c.ensures.variant in
+    let e = h.0 in
+    let q = h.2 in
+    let g : ◌≡◌ {A = TextFault} c.in_err-c.field-0.0 (fault c.args.p e) = search rules in
+    exits (OwnRead _ _ _ _ _ _) c.from_residual.ensures.1 (own-fails _ _ _ c.args.p g h.1 c.own_command.ensures)
 
 pub keep-requires : goal.keep-requires
-keep-requires c =
-    let h = c.requires in
-    own-packable _ h.some h.most _ _ (sym c.own_command.ensures ∙ ap line_as c.in-Got.is)
+keep-requires c = own-packable _ c.requires.some c.requires.most _ _ (said (goal.at.keep-requires c).In_ok-c)
 
 pub next_line-requires : goal.next_line-requires
 next_line-requires c =
-    let s = c in
-    let h = s.requires in
-    let l = own-long _ s.args.w.end s.args.l.now _ (sym c.own_command.ensures ∙ ap line_as c.in-Got.is) in
+    let h = c.requires in
+    let l = own-long _ c.args.w.end c.args.l.now _ (said (goal.at.next_line-requires c).In_ok-c) in
     (h.at, omega (arith, h.near, h.at), omega (arith, h.near, h.few, h.at))
 
-pub returns-in-Refused : goal.returns-in-Refused
+pub returns : goal.returns
 unfolding OwnRead
-returns-in-Refused c = (sym c.own_command.ensures ∙ ap line_as c.in-Refused.is, refl)
-
-pub returns-in-Got : goal.returns-in-Got
-unfolding OwnRead
-returns-in-Got c =
-    let k = (goal.at.returns-in-Got c).After-keep in
-    let g = k in (
-      g.in-Got.c,
-      sym g.own_command.ensures ∙ ap line_as g.in-Got.is,
-      c.next_line.ensures,
-      k.keep.ensures,
-    )
-
-pub own_command-requires : goal.own_command-requires
-own_command-requires c = let h = c.requires in (h.some, h.most, h.end, h.code)
+returns c = (c.in_ok-c.c, said (goal.at.returns c).In_ok-c, c.next_line.ensures, c.keep.ensures)

@@ -1,7 +1,6 @@
 -- The target is as near as a command can have it.
 use mathlib.Core.Path.{ap}
 use Prim.Native.Nat.{ℕ}
-use borrow.Author.Rules.{rules}
 use Rattle.model_blocks.specs.Block.{test_to}
 use Rattle.read_blocks.proofs.test_to.Goals as goal
 

@@ -1,6 +1,5 @@
 -- No part, or those behind the first space.
-use mathlib.Core.Path.{◌∙◌, sym, ap}
-use borrow.Author.Rules.{rules}
+use Rattle.std.proofs.Common.{◌∙◌, sym, ap}
 use Rattle.model_blocks.specs.Dialect.{tested}
 use Rattle.read_command.proofs.Laws.{parts_none, parts-behind}
 use Rattle.read_blocks.proofs.Words.{tested-one}

@@ -1,76 +1,65 @@
 -- Each shape of a row: its numbers are read within their limits, and the command is made of them.
-use Rattle.read_text.specs.Text.{natural_as}
-use Rattle.read_command.specs.Command.{two_as}
-use Rattle.read_command.proofs.Laws.{answered, one-bound, two-bound, mapped-got, mapped-refused, at-shape}
-use mathlib.Core.Path.{◌∙◌, sym}
-use borrow.Author.Rules.{rules}
+use Rattle.std.proofs.Common.{◌∙◌, sym, rules}
+use Rattle.model.proofs.Handed.{refused-handed}
+use Rattle.read_command.proofs.Laws.{one-bound, two-bound, mapped-got, mapped-refused, alone-not, at-shape}
 use Rattle.read_command.proofs.read_parts.Goals as goal
 
-pub command_of-requires : goal.command_of-requires
-command_of-requires c = let b = one-bound _ _ _ (answered natural_as c.one_part.ensures c.in-Got.is) in search rules
-
-pub command_of-requires-in-Got-one_part : goal.command_of-requires-in-Got-one_part
-command_of-requires-in-Got-one_part c = let b = one-bound _ _ _ (answered natural_as c.one_part-in-T.ensures c.in-Got-one_part.is) in search rules
-
-pub command_of-requires-in-Got-two_parts : goal.command_of-requires-in-Got-two_parts
-command_of-requires-in-Got-two_parts c = let b = two-bound _ _ _ _ _ (answered two_as c.two_parts.ensures c.in-Got-two_parts.is) in search rules
-
-pub command_of-requires-in-Got-two_parts-2 : goal.command_of-requires-in-Got-two_parts-2
-command_of-requires-in-Got-two_parts-2 c = let b = two-bound _ _ _ _ _ (answered two_as c.two_parts-in-VK.ensures c.in-Got-two_parts-2.is) in search rules
-
-pub command_of-requires-in-Got-two_parts-3 : goal.command_of-requires-in-Got-two_parts-3
-command_of-requires-in-Got-two_parts-3 c = let b = two-bound _ _ _ _ _ (answered two_as c.two_parts-in-KV.ensures c.in-Got-two_parts-3.is) in search rules
-
-pub command_of-requires-in-Got-two_parts-4 : goal.command_of-requires-in-Got-two_parts-4
-command_of-requires-in-Got-two_parts-4 c = let b = two-bound _ _ _ _ _ (answered two_as c.two_parts-in-VT.ensures c.in-Got-two_parts-4.is) in search rules
-
-pub returns-in-Got : goal.returns-in-Got
-returns-in-Got c =
-    let p = c in
-    mapped-got _ _ (at-shape _ _ p.in-K.is _) (answered natural_as p.one_part.ensures c.in-Got.is) c.command_of.ensures
-
-pub returns-in-Refused : goal.returns-in-Refused
-returns-in-Refused c = let p = c in mapped-refused _ _ (at-shape _ _ p.in-K.is _) (answered natural_as p.one_part.ensures c.in-Refused.is)
-
-pub returns-in-Got-one_part : goal.returns-in-Got-one_part
-returns-in-Got-one_part c =
-    let p = c in
-    mapped-got _ _ (at-shape _ _ p.in-T.is _) (answered natural_as p.one_part-in-T.ensures c.in-Got-one_part.is) c.command_of-in-Got-one_part.ensures
-
-pub returns-in-Refused-one_part : goal.returns-in-Refused-one_part
-returns-in-Refused-one_part c = let p = c in mapped-refused _ _ (at-shape _ _ p.in-T.is _) (answered natural_as p.one_part-in-T.ensures c.in-Refused-one_part.is)
+pub returns-in-Alone : goal.returns-in-Alone
+returns-in-Alone c = sym (at-shape _ _ c.in-Alone.is _ ∙ alone-not _ _ _)
 
 pub returns-in-VN : goal.returns-in-VN
 returns-in-VN c = c.read_set.ensures ∙ sym (at-shape _ _ c.in-VN.is _)
 
-pub returns-in-Got-two_parts : goal.returns-in-Got-two_parts
-returns-in-Got-two_parts c =
-    let p = c in
-    mapped-got _ _ (at-shape _ _ p.in-VW.is _) (answered two_as p.two_parts.ensures c.in-Got-two_parts.is) c.command_of-in-Got-two_parts.ensures
+pub command_of-requires : goal.command_of-requires
+command_of-requires c = let b = one-bound _ _ _ (sym c.in_ok-k-in-K.ensures) in search rules
 
-pub returns-in-Refused-two_parts : goal.returns-in-Refused-two_parts
-returns-in-Refused-two_parts c = let p = c in mapped-refused _ _ (at-shape _ _ p.in-VW.is _) (answered two_as p.two_parts.ensures c.in-Refused-two_parts.is)
+pub returns-in_err-k-in-K : goal.returns-in_err-k-in-K
+returns-in_err-k-in-K c = refused-handed _ _ c.from_residual.ensures.1 ∙ mapped-refused _ _ (at-shape _ _ c.in-K.is _) (sym c.in_err-k-in-K.ensures)
 
-pub returns-in-Got-two_parts-2 : goal.returns-in-Got-two_parts-2
-returns-in-Got-two_parts-2 c =
-    let p = c in
-    mapped-got _ _ (at-shape _ _ p.in-VK.is _) (answered two_as p.two_parts-in-VK.ensures c.in-Got-two_parts-2.is) c.command_of-in-Got-two_parts-2.ensures
+pub returns-in_ok-k-in-K : goal.returns-in_ok-k-in-K
+returns-in_ok-k-in-K c = mapped-got _ _ (at-shape _ _ c.in-K.is _) (sym c.in_ok-k-in-K.ensures) c.command_of.ensures
 
-pub returns-in-Refused-two_parts-2 : goal.returns-in-Refused-two_parts-2
-returns-in-Refused-two_parts-2 c = let p = c in mapped-refused _ _ (at-shape _ _ p.in-VK.is _) (answered two_as p.two_parts-in-VK.ensures c.in-Refused-two_parts-2.is)
+pub command_of-requires-in-T : goal.command_of-requires-in-T
+command_of-requires-in-T c = let b = one-bound _ _ _ (sym c.in_ok-x-in-T.ensures) in search rules
 
-pub returns-in-Got-two_parts-3 : goal.returns-in-Got-two_parts-3
-returns-in-Got-two_parts-3 c =
-    let p = c in
-    mapped-got _ _ (at-shape _ _ p.in-KV.is _) (answered two_as p.two_parts-in-KV.ensures c.in-Got-two_parts-3.is) c.command_of-in-Got-two_parts-3.ensures
+pub returns-in_err-x-in-T : goal.returns-in_err-x-in-T
+returns-in_err-x-in-T c = refused-handed _ _ c.from_residual-in_err-x-in-T.ensures.1 ∙ mapped-refused _ _ (at-shape _ _ c.in-T.is _) (sym c.in_err-x-in-T.ensures)
 
-pub returns-in-Refused-two_parts-3 : goal.returns-in-Refused-two_parts-3
-returns-in-Refused-two_parts-3 c = let p = c in mapped-refused _ _ (at-shape _ _ p.in-KV.is _) (answered two_as p.two_parts-in-KV.ensures c.in-Refused-two_parts-3.is)
+pub returns-in_ok-x-in-T : goal.returns-in_ok-x-in-T
+returns-in_ok-x-in-T c = mapped-got _ _ (at-shape _ _ c.in-T.is _) (sym c.in_ok-x-in-T.ensures) c.command_of-in-T.ensures
 
-pub returns-in-Got-two_parts-4 : goal.returns-in-Got-two_parts-4
-returns-in-Got-two_parts-4 c =
-    let p = c in
-    mapped-got _ _ (at-shape _ _ p.in-VT.is _) (answered two_as p.two_parts-in-VT.ensures c.in-Got-two_parts-4.is) c.command_of-in-Got-two_parts-4.ensures
+pub command_of-requires-in-VW : goal.command_of-requires-in-VW
+command_of-requires-in-VW c = let b = two-bound _ _ _ _ _ (sym c.in_ok-v-in-VW.ensures) in search rules
 
-pub returns-in-Refused-two_parts-4 : goal.returns-in-Refused-two_parts-4
-returns-in-Refused-two_parts-4 c = let p = c in mapped-refused _ _ (at-shape _ _ p.in-VT.is _) (answered two_as p.two_parts-in-VT.ensures c.in-Refused-two_parts-4.is)
+pub returns-in_err-v-in-VW : goal.returns-in_err-v-in-VW
+returns-in_err-v-in-VW c = refused-handed _ _ c.from_residual-in_err-v-in-VW.ensures.1 ∙ mapped-refused _ _ (at-shape _ _ c.in-VW.is _) (sym c.in_err-v-in-VW.ensures)
+
+pub returns-in_ok-v-in-VW : goal.returns-in_ok-v-in-VW
+returns-in_ok-v-in-VW c = mapped-got _ _ (at-shape _ _ c.in-VW.is _) (sym c.in_ok-v-in-VW.ensures) c.command_of-in-VW.ensures
+
+pub command_of-requires-in-VK : goal.command_of-requires-in-VK
+command_of-requires-in-VK c = let b = two-bound _ _ _ _ _ (sym c.in_ok-v-in-VK.ensures) in search rules
+
+pub returns-in_err-v-in-VK : goal.returns-in_err-v-in-VK
+returns-in_err-v-in-VK c = refused-handed _ _ c.from_residual-in_err-v-in-VK.ensures.1 ∙ mapped-refused _ _ (at-shape _ _ c.in-VK.is _) (sym c.in_err-v-in-VK.ensures)
+
+pub returns-in_ok-v-in-VK : goal.returns-in_ok-v-in-VK
+returns-in_ok-v-in-VK c = mapped-got _ _ (at-shape _ _ c.in-VK.is _) (sym c.in_ok-v-in-VK.ensures) c.command_of-in-VK.ensures
+
+pub command_of-requires-in-KV : goal.command_of-requires-in-KV
+command_of-requires-in-KV c = let b = two-bound _ _ _ _ _ (sym c.in_ok-k-in-KV.ensures) in search rules
+
+pub returns-in_err-k-in-KV : goal.returns-in_err-k-in-KV
+returns-in_err-k-in-KV c = refused-handed _ _ c.from_residual-in_err-k-in-KV.ensures.1 ∙ mapped-refused _ _ (at-shape _ _ c.in-KV.is _) (sym c.in_err-k-in-KV.ensures)
+
+pub returns-in_ok-k-in-KV : goal.returns-in_ok-k-in-KV
+returns-in_ok-k-in-KV c = mapped-got _ _ (at-shape _ _ c.in-KV.is _) (sym c.in_ok-k-in-KV.ensures) c.command_of-in-KV.ensures
+
+pub command_of-requires-in-VT : goal.command_of-requires-in-VT
+command_of-requires-in-VT c = let b = two-bound _ _ _ _ _ (sym c.in_ok-v-in-VT.ensures) in search rules
+
+pub returns-in_err-v-in-VT : goal.returns-in_err-v-in-VT
+returns-in_err-v-in-VT c = refused-handed _ _ c.from_residual-in_err-v-in-VT.ensures.1 ∙ mapped-refused _ _ (at-shape _ _ c.in-VT.is _) (sym c.in_err-v-in-VT.ensures)
+
+pub returns-in_ok-v-in-VT : goal.returns-in_ok-v-in-VT
+returns-in_ok-v-in-VT c = mapped-got _ _ (at-shape _ _ c.in-VT.is _) (sym c.in_ok-v-in-VT.ensures) c.command_of-in-VT.ensures

@@ -1,6 +1,5 @@
 -- The count is added where there are not too many bytes.
 use mathlib.Core.Path.{refl, sym}
-use borrow.Author.Rules.{rules}
 use Rattle.read_command.proofs.Words.{count_long, count-short}
 use Rattle.read_command.proofs.word_at.Goals as goal
 

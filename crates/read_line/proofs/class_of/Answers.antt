@@ -3,8 +3,6 @@ use mathlib.Core.Path.{sym, ◌∙◌}
 use Prim.Native.Nat.{ℕ, ◌≤◌}
 use mathlib.Core.Logic.{⊎_elim}
 use native.Mathlib.Omega.{arith}
-use borrow.Author.Rules.{rules}
-use borrow.Author.Tests.{not-true, not-false}
 use Rattle.model.specs.Text.{class_of}
 use Rattle.model_text.proofs.TextLaws.{between_in, between-out, between-less, digit-class, small-class, capital-class, other-class, below-class, above-class}
 use Rattle.read_line.proofs.class_of.Goals as goal

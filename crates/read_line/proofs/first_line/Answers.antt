@@ -1,7 +1,6 @@
 -- Another start, no line feed, or the line: the three cases of a text's first line.
 use mathlib.Core.Path.{◌∙◌, sym, ap}
 use native.Mathlib.Omega.{arith}
-use borrow.Author.{Rules.rules, Tests.not-true, Tests.not-false}
 use lib.ListN.{length, length-drop}
 use Rattle.model_text.proofs.TextLaws.{rest, starts-length}
 use Rattle.read_line.proofs.Laws.{headed-other, headed-short, headed-at}

@@ -2,7 +2,6 @@
 use mathlib.Core.Path.{sym, ◌∙◌}
 use mathlib.Core.Bool.{not}
 use lib.{Dec.leb, ListN.length}
-use borrow.Author.Rules.{rules}
 use borrow.Author.Tests.{not-true}
 use Rattle.model_text.specs.Found.{forbids}
 use Rattle.model_text.proofs.TextLaws.{and_both, allowed-line, spoilt-none}

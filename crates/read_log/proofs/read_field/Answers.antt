@@ -1,23 +1,31 @@
 -- Nothing, a number, or a fault.
-use mathlib.Core.Path.{sym, ap, ◌∙◌}
-use borrow.Author.Rules.{rules}
-use lib.IntN.{ℤ}
-use Rattle.model.specs.Parsed.{got}
+use Rattle.std.proofs.Common.{◌≡◌, ◌≢◌, ◌∙◌, sym, ap, arith, rules, ℤ, length, Err}
+use Rattle.std.proofs.lemmas.Bool.Decides.{nat_tests}
+use Rattle.model.specs.{Parsed.got, Refusal.parsed}
 use Rattle.model.specs.declared.Entry.TheVariants.{Number}
-use Rattle.read_text.specs.Text.{whole_as}
+use Rattle.model.specs.declared.Refusal.{Refusal}
+use Rattle.model.specs.declared.Refusal.TheVariants.{BadField}
+use Rattle.model.proofs.Handed.{refused-handed}
+use Rattle.read_log.proofs.Named.{named_ok, named-err}
 use Rattle.read_log.proofs.Fields.{field-empty, field-number, field-bad}
 use Rattle.read_log.proofs.read_field.Goals as goal
+use Rattle.read_log.proofs.read_field.Goals.{After-from_residual}
 
-pub returns-in-Got : goal.returns-in-Got
-returns-in-Got c =
-    let n = c in
-    ap (λ (z : ℤ). got (Number z)) (search rules)
-    ∙ sym (field-number _ c.in-Got.v n.if-f-eq0.false (sym n.number_of.ensures ∙ ap whole_as c.in-Got.is))
+pub returns-then-is_empty : goal.returns-then-is_empty
+returns-then-is_empty c = sym (field-empty _ (grind (arith, nat_tests, c.if-is_empty.ensures)))
 
-pub returns-in-Refused : goal.returns-in-Refused
-returns-in-Refused c =
-    let n = c in
-    sym (field-bad _ _ n.if-f-eq0.false (sym n.number_of.ensures ∙ ap whole_as c.in-Refused.is))
+-- the refusal of a number, whatever its fault
+bad : (c : After-from_residual) → (e : Refusal) × (c.number_of.result ≡ Err e) × (c.in_err-v.field-0.0 ≡ BadField)
+bad c = let m = named-err _ _ _ _ c.map_err.ensures.cases c.in_err-v.was in (m.0, m.1, search rules)
 
-pub returns-then-f-eq0 : goal.returns-then-f-eq0
-returns-then-f-eq0 c = sym (field-empty _ c.if-f-eq0.true)
+pub returns-in_err-v : goal.returns-in_err-v
+returns-in_err-v c =
+    let some : length c.args.f.now ≢ 0 = grind (arith, nat_tests, c.if-is_empty.ensures) in
+    let m = bad c in
+    rw m.2 at (refused-handed _ _ c.from_residual.ensures.1) ∙ sym (field-bad _ _ some (sym c.number_of.ensures ∙ ap parsed m.1))
+
+pub returns : goal.returns
+returns c =
+    let some : length c.args.f.now ≢ 0 = grind (arith, nat_tests, c.if-is_empty.ensures) in
+    let m = named_ok _ _ _ _ c.map_err.ensures.cases c.in_ok-v.was in
+    ap (λ (z : ℤ). got (Number z)) (search rules) ∙ sym (field-number _ _ some (sym c.number_of.ensures ∙ ap parsed m))

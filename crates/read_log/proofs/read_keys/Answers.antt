@@ -1,126 +1,82 @@
 -- The fields that are left, behind the keys that the array holds, give what the whole row gives.
-use Prim.Native.Nat.{ℕ, ◌+◌, ◌-◌, ◌≤◌, ◌<◌}
-use mathlib.Core.Path.{◌≡◌, refl, sym, ap, ◌∙◌}
-use mathlib.Core.List.{[], ◌∷◌, ◌++◌}
-use native.Mathlib.Omega.{arith}
-use borrow.Author.Rules.{rules}
-use lib.{ListN.length, ListN.take, ListN.drop, ListN.set, ListN.length-set, ListN.length-drop, Seq.length-take-le}
-use Rattle.model.specs.{Parsed.got, Parsed.refused, Text.comma, Text.split, Number.up_to}
-use Rattle.model.proofs.Accepted.{up-to-bound, every_set, every-replicate}
-use Rattle.model_log.specs.Log.{key_count, greatest_key, key_numbers}
-use Rattle.read_text.specs.Text.{natural_as}
-use Rattle.model_text.proofs.{TextLaws.rest, LineLaws.find-le, LineLaws.parts-some, LineLaws.parts_last, LineLaws.parts_more}
-use Rattle.read_line.specs.declared.Checked.TheVariants.{Refused}
-use Rattle.read_log.specs.Log.{KeysHeld, KeysRead}
-use Rattle.read_log.specs.declared.Keys.{Keys}
+use Rattle.std.proofs.Common.{ℕ, List, ◌≡◌, ◌∙◌, ◌+◌, ◌∷◌, ◌≤◌, sym, ap, refl, arith, rules, length, length-set, take, drop, Err}
+use Rattle.std.proofs.lemmas.{Iterator.Consumers.YieldsList-from_first, List.length_push}
+use Rattle.model.specs.{Parsed.Parsed, Parsed.got, Parsed.refused, Refusal.parsed, Text.comma, Text.split, Number.up_to}
+use Rattle.model.specs.declared.Refusal.{Refusal}
+use Rattle.model.specs.declared.Refusal.TheVariants.{BadField}
+use Rattle.model.proofs.{Accepted.up-to-bound, Accepted.every-snoc, Handed.handed}
+use Rattle.model_log.specs.Log.{greatest_key, key_numbers}
+use Rattle.read_messages.specs.Messages.{parts_left}
+use Rattle.read_messages.proofs.Items.{next_item, no-item}
+use Rattle.read_log.proofs.Named.{named_ok, named-err}
+use Rattle.read_log.specs.Log.{KeysRead}
 use Rattle.read_log.proofs.Fields.{behind, key-bad, key-falls, key-next, keys-end, behind-none, keys-stored}
 use Rattle.read_log.proofs.read_keys.Goals as goal
-use Rattle.read_log.proofs.read_keys.Goals.{After-find_byte-e, After-up_to, At-loop-checked, Else-k-next, In-Got, Start}
+use Rattle.read_log.proofs.read_keys.Goals.{After-from_residual, At-loop-part, In-Some, In_ok-k}
 
--- the points of the code: the start, a turn's start, the comma, and the key before it
-abbrev start_of : At-loop-checked → Start
-start_of c = (goal.at.At-loop-checked c).Start
+pub loop-part-init : goal.loop-part-init
+loop-part-init c = record { few = omega arith; within = omega arith; all = refl; held = tt; same = behind-none _ }
 
-abbrev comma_of : After-up_to → After-find_byte-e
-comma_of c = (goal.at.After-up_to c).After-find_byte-e
+-- the fields that are left, of which this is the first
+left : (c : In-Some) → let ps = split comma c.args.t.now in drop (length c.loop-part.yielded) ps ≡ c.in-Some.part.now ∷ drop (length c.loop-part.yielded + 1) ps
+left c = next_item (YieldsList-from_first (λ p. p.now) parts_left (split comma c.args.t.now) (search rules)) _ _ c.loop-part.yielded_by c.in-Some.is c.next.ensures.steps
 
-abbrev turn_of : After-up_to → At-loop-checked
-turn_of c = (goal.at.After-find_byte-e (comma_of c)).At-loop-checked
+-- what fields give behind the keys that the array holds
+abbrev read_by : At-loop-part → List (List ℕ) → Parsed (List ℕ)
+read_by c ps = behind (take c.loop-part.count c.loop-part.keys) (key_numbers c.loop-part.next ps)
 
-abbrev key_of : In-Got → After-up_to
-key_of c = (goal.at.In-Got c).After-up_to
+refuses : (c : At-loop-part) → read_by c (drop (length c.loop-part.yielded) (split comma c.args.t.now)) ≡ refused 42 → KeysRead c.args.t.now (Err BadField)
+refuses c e = record { read = sym (sym c.loop-part.invariant.same ∙ e); held = tt }
 
-remains : (l : At-loop-checked) → let t = (start_of l).args.t.now in take (length t - l.loop-checked.a) (drop l.loop-checked.a t) ≡ drop l.loop-checked.a t
-remains l = rest (start_of l).args.t.now l.loop-checked.a
+-- the refusal of a key, whatever its fault
+bad : (c : After-from_residual) → (e : Refusal) × (c.up_to.result ≡ Err e) × (c.in_err-k.field-0.0 ≡ BadField)
+bad c = let m = named-err _ _ _ _ c.map_err.ensures.cases c.in_err-k.was in (m.0, m.1, search rules)
 
-pub loop-checked-init : goal.loop-checked-init
-loop-checked-init c = (omega arith, omega arith, omega arith, refl, every-replicate (λ (k : ℕ). k < key_count) key_count 0 (omega arith), behind-none _)
-
--- what the array holds beside a refusal
-abbrev faulty : At-loop-checked → Keys
-faulty l = record { checked = Refused 42; count = l.loop-checked.count; keys = l.loop-checked.keys }
-
-refuses : (l : At-loop-checked) → behind (take l.loop-checked.count l.loop-checked.keys) (key_numbers l.loop-checked.next (split comma (drop l.loop-checked.a (start_of l).args.t.now))) ≡ refused 42
-    → KeysRead (start_of l).args.t.now (faulty l)
-refuses l e = let i = l.loop-checked.invariant in record { read = sym (sym i.5 ∙ e); held = i.4; few = omega arith; all = i.3 }
-
-pub returns-in-Refused : goal.returns-in-Refused
-returns-in-Refused c =
-    let u = (goal.at.returns-in-Refused c).After-up_to in
-    let l = turn_of u in
-    let p = parts-some comma (start_of l).args.t.now _ l.loop-checked.a _ (remains l) (comma_of u).find_byte-e.ensures in
-    refuses l (rw p.1 (key-bad _ _ _ p.0 _ (sym u.up_to.ensures ∙ ap natural_as c.in-Refused.is)))
+pub returns-in_err-k : goal.returns-in_err-k
+returns-in_err-k c =
+    let m = bad c in
+    let b = key-bad (take c.loop-part.count c.loop-part.keys) c.loop-part.next _ _ _ (sym c.up_to.ensures ∙ ap parsed m.1) in
+    rw (handed _ _ c.from_residual.ensures.1, m.2)
+    (refuses (goal.at.returns-in_err-k c).At-loop-part (ap (read_by (goal.at.returns-in_err-k c).At-loop-part) (left (goal.at.returns-in_err-k c).In-Some) ∙ b))
 
 -- a key that was read, and that it is one of the eight
-found : (c : In-Got) →
-    let l = turn_of (key_of c) in
-    let t = (start_of l).args.t.now in
-    up_to greatest_key (take (comma_of (key_of c)).find_byte-e.result (take (length t - l.loop-checked.a) (drop l.loop-checked.a t))) ≡ got c.in-Got.k
-found c = sym (key_of c).up_to.ensures ∙ ap natural_as c.in-Got.is
+found : (c : In_ok-k) → up_to greatest_key c.in-Some.part.now ≡ got c.in_ok-k.k
+found c = sym c.up_to.ensures ∙ ap parsed (named_ok _ _ _ _ c.map_err.ensures.cases c.in_ok-k.was)
 
-below : (c : In-Got) → c.in-Got.k ≤ greatest_key
+below : (c : In_ok-k) → c.in_ok-k.k ≤ greatest_key
 below c = up-to-bound _ _ _ (found c)
 
 pub returns-then-k-next : goal.returns-then-k-next
 returns-then-k-next c =
-    let u = key_of (goal.at.returns-then-k-next c).In-Got in
-    let l = turn_of u in
-    let p = parts-some comma (start_of l).args.t.now _ l.loop-checked.a _ (remains l) (comma_of u).find_byte-e.ensures in
-    refuses l (rw p.1 (key-falls _ _ _ p.0 _ (found (goal.at.returns-then-k-next c).In-Got) c.if-k-next.true))
-
--- the array with the key in it
-stored : (c : Else-k-next) →
-    let l = turn_of (key_of (goal.at.Else-k-next c).In-Got) in
-    let k = c.in-Got.k in
-    take (l.loop-checked.count + 1) (set l.loop-checked.keys l.loop-checked.count k) ≡ take l.loop-checked.count l.loop-checked.keys ++ (k ∷ [])
-stored c =
-    let l = turn_of (key_of (goal.at.Else-k-next c).In-Got) in
-    let b = below (goal.at.Else-k-next c).In-Got in
-    keys-stored l.loop-checked.keys l.loop-checked.count c.in-Got.k (omega arith)
-
-pub returns-then-f-e : goal.returns-then-f-e
-returns-then-f-e c =
-    let e = (goal.at.returns-then-f-e c).Else-k-next in
-    let u = key_of (goal.at.Else-k-next e).In-Got in
-    let l = turn_of u in
-    let i = l.loop-checked.invariant in
-    let b = below (goal.at.Else-k-next e).In-Got in
-    let p = parts_last comma (start_of l).args.t.now _ l.loop-checked.a _ (remains l) (comma_of u).find_byte-e.ensures c.if-f-e.true in
-    record {
-      read = ap got (stored e) ∙ sym (sym i.5 ∙ (rw p (key-next _ _ _ [] _ (found (goal.at.Else-k-next e).In-Got) (omega arith) ∙ keys-end _ _)));
-      held = every_set _ l.loop-checked.keys l.loop-checked.count _ i.4 (omega arith);
-      few = omega arith;
-      all = length-set l.loop-checked.keys l.loop-checked.count _ ∙ i.3;
-    }
-
-pub loop-checked-preserved : goal.loop-checked-preserved
-loop-checked-preserved c =
-    let e = (goal.at.loop-checked-preserved c).Else-k-next in
-    let u = key_of (goal.at.Else-k-next e).In-Got in
-    let l = turn_of u in
-    let i = l.loop-checked.invariant in
-    let b = below (goal.at.Else-k-next e).In-Got in
-    let n = ap length (remains l) ∙ length-drop l.loop-checked.a (start_of l).args.t.now in
-    let p = parts_more comma (start_of l).args.t.now _ l.loop-checked.a _ (remains l) (comma_of u).find_byte-e.ensures c.if-f-e.false in (
-      omega (arith, n),
-      omega arith,
-      omega arith,
-      length-set l.loop-checked.keys l.loop-checked.count _ ∙ i.3,
-      every_set _ l.loop-checked.keys l.loop-checked.count _ i.4 (omega arith),
-      rw (stored e) (sym (rw p (key-next _ _ _ _ _ (found (goal.at.Else-k-next e).In-Got) (omega arith))) ∙ i.5),
-    )
-
-pub slice_bounds-up_to-end : goal.slice_bounds-up_to-end
-slice_bounds-up_to-end c = sym (length-take-le _ _ (rw c.find_byte-e.ensures (find-le comma _)))
+    let b = key-falls (take c.loop-part.count c.loop-part.keys) c.loop-part.next _ _ _ (found (goal.at.returns-then-k-next c).In_ok-k) c.if-k-next.true in
+    refuses (goal.at.returns-then-k-next c).At-loop-part (ap (read_by (goal.at.returns-then-k-next c).At-loop-part) (left (goal.at.returns-then-k-next c).In-Some) ∙ b)
 
 pub overflow_cast-keys : goal.overflow_cast-keys
-overflow_cast-keys c = let b = below (goal.at.overflow_cast-keys c).In-Got in omega arith
+overflow_cast-keys c = let b = below (goal.at.overflow_cast-keys c).In_ok-k in omega arith
 
 pub bounds-keys-count : goal.bounds-keys-count
-bounds-keys-count c = let b = below (goal.at.bounds-keys-count c).In-Got in omega arith
-
-pub overflow_add-count : goal.overflow_add-count
-overflow_add-count c = let b = below (goal.at.overflow_add-count c).In-Got in omega arith
+bounds-keys-count c = let b = below (goal.at.bounds-keys-count c).In_ok-k in omega arith
 
 pub overflow_add-next : goal.overflow_add-next
-overflow_add-next c = let b = below (goal.at.overflow_add-next c).In-Got in omega arith
+overflow_add-next c = let b = below (goal.at.overflow_add-next c).In_ok-k in omega arith
+
+pub loop-part-preserved : goal.loop-part-preserved
+loop-part-preserved c =
+    let i = c.loop-part.invariant in
+    let k = c.in_ok-k.k in
+    let b = below (goal.at.loop-part-preserved c).In_ok-k in
+    let w = keys-stored c.loop-part.keys c.loop-part.count k (omega arith) in
+    let n = key-next (take c.loop-part.count c.loop-part.keys) c.loop-part.next _ _ k (found (goal.at.loop-part-preserved c).In_ok-k) c.if-k-next.false in
+    record {
+      few = omega arith;
+      within = omega arith;
+      all = simp length-set i.all;
+      held = rw w (every-snoc _ _ k i.held (omega arith));
+      same = rw (w, length_push c.loop-part.yielded c.in-Some.part) (sym (ap (read_by (goal.at.loop-part-preserved c).At-loop-part) (left (goal.at.loop-part-preserved c).In-Some) ∙ n) ∙ i.same);
+    }
+
+pub returns : goal.returns
+returns c =
+    let l = no-item (YieldsList-from_first (λ p. p.now) parts_left (split comma c.args.t.now) (search rules)) _ _ c.loop-part.yielded_by c.in-None.is c.next.ensures.steps in
+    let e = ap (read_by (goal.at.returns c).At-loop-part) l ∙ keys-end (take c.loop-part.count c.loop-part.keys) c.loop-part.next in
+    record { read = sym (sym c.loop-part.invariant.same ∙ e); held = (c.loop-part.invariant.held, omega arith) }

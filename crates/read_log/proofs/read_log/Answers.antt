@@ -1,60 +1,57 @@
 -- The first row, and the others behind it.
-use mathlib.Core.Path.{◌≡◌, sym, ap, ◌∙◌}
-use native.Mathlib.Omega.{arith}
-use borrow.Author.Rules.{rules}
-use lib.{ListN.take, Seq.length-take-le}
-use Rattle.model.specs.{Parsed.got, Parsed.refused, Text.comma, Text.split}
-use Rattle.model_log.specs.Log.{key_numbers}
-use Rattle.read_line.specs.Phase.{checked_as}
-use Rattle.read_line.specs.declared.Checked.{Checked}
+use Rattle.std.proofs.Common.{◌≡◌, ◌∙◌, ◌+◌, sym, ap, arith, rules, length-take-le, Err}
+use Rattle.model.specs.{Parsed.got, Refusal.parsed, Refusal.parsed_by}
+use Rattle.model.specs.declared.Refusal.{Refusal}
+use Rattle.model.proofs.Handed.{handed}
 use Rattle.model_text.proofs.TextLaws.{rest}
-use Rattle.read_log.specs.Log.{scan, row_as}
+use Rattle.read_log.proofs.Named.{named_ok, named-err}
+use Rattle.read_log.specs.Log.{scan, keys_in}
 use Rattle.read_log.proofs.{Rows.First, Rows.scan-first, Further.log-faulty, Further.log-keys-bad, Further.log-keys}
 use Rattle.read_log.proofs.read_log.Goals as goal
-use Rattle.read_log.proofs.read_log.Goals.{After-read_keys-header, In-Got, Start}
+use Rattle.read_log.proofs.read_log.Goals.{After-from_residual, After-from_residual-in_err-header, In_ok-e}
 
--- the points of the code: the row that the scan found, and the start
-abbrev start_of : In-Got → Start
-start_of c = (goal.at.In-Got c).Start
+-- a refusal of the scan, and that it is told of row 1
+unscanned : (c : After-from_residual) → (y : Refusal) × (c.scan_row.result ≡ Err y) × (c.in_err-e.field-0.0 ≡ record { refusal = y; line = 1 })
+unscanned c = let m = named-err _ _ _ _ c.map_err.ensures.cases c.in_err-e.was in (m.0, m.1, search rules)
 
-scanned : (c : In-Got) → scan 0 1 (start_of c).args.s.now ≡ got (c.in-Got.e, c.in-Got.field-1)
-scanned c = sym c.scan_row.ensures ∙ ap row_as c.in-Got.is
+pub returns-in_err-e : goal.returns-in_err-e
+returns-in_err-e c =
+    let m = unscanned c in
+    let r = sym c.scan_row.ensures ∙ ap parsed m.1 in
+    rw (handed _ _ c.from_residual.ensures.1, m.2) (record { read = sym (log-faulty c.args.s.now _ r); few = tt })
 
-first : (c : In-Got) → First (start_of c).args.s.now c.in-Got.e c.in-Got.field-1
+-- the row that the scan found
+scanned : (c : In_ok-e) → scan 0 1 c.args.s.now ≡ got (c.in_ok-e.e, c.in_ok-e.field-0-1)
+scanned c = sym c.scan_row.ensures ∙ ap parsed (named_ok _ _ _ _ c.map_err.ensures.cases c.in_ok-e.was)
+
+first : (c : In_ok-e) → First c.args.s.now c.in_ok-e.e c.in_ok-e.field-0-1
 first c = scan-first _ _ _ (scanned c)
 
--- the keys of the first row
-abbrev row_of : After-read_keys-header → In-Got
-row_of c = (goal.at.After-read_keys-header c).In-Got
-
-keys : (c : After-read_keys-header) (x : Checked) → c.read_keys-header.result.checked ≡ x
-    → key_numbers 0 (split comma (take (row_of c).in-Got.e (start_of (row_of c)).args.s.now)) ≡ checked_as x (take c.read_keys-header.result.count c.read_keys-header.result.keys)
-keys c x e = sym c.read_keys-header.ensures.read ∙ ap (λ (y : Checked). checked_as y (take c.read_keys-header.result.count c.read_keys-header.result.keys)) e
-
-pub returns-in-Refused : goal.returns-in-Refused
-returns-in-Refused c =
-    let u = c in
-    rw (log-faulty u.args.s.now _ (sym u.scan_row.ensures ∙ ap row_as c.in-Refused.is)) c.refused.ensures
-
-pub returns-in-Refused-checked : goal.returns-in-Refused-checked
-returns-in-Refused-checked c =
-    let k = (goal.at.returns-in-Refused-checked c).After-read_keys-header in
-    rw (log-keys-bad _ _ _ (scanned (row_of k)) _ (keys k _ c.in-Refused-checked.is)) c.refused-in-Refused-checked.ensures
-
-pub returns-in-Got-checked : goal.returns-in-Got-checked
-returns-in-Got-checked c =
-    let k = (goal.at.returns-in-Got-checked c).After-read_keys-header in
-    let s = (start_of (row_of k)).args.s.now in
-    rw (log-keys _ _ _ (scanned (row_of k)) _ (keys k _ c.in-Got-checked.is)) (rw (rest s _) at c.read_further.ensures)
-
 pub slice_bounds-read_keys-end : goal.slice_bounds-read_keys-end
-slice_bounds-read_keys-end c = let i = (first c).inside in sym (length-take-le _ _ (omega arith))
+slice_bounds-read_keys-end c = let i = (first (goal.at.slice_bounds-read_keys-end c).In_ok-e).inside in sym (length-take-le _ _ (omega arith))
+
+-- a refusal of the keys, told of row 1 too
+unread : (c : After-from_residual-in_err-header) → (y : Refusal) × (c.read_keys.result ≡ Err y) × (c.in_err-header.field-0.0 ≡ record { refusal = y; line = 1 })
+unread c = let m = named-err _ _ _ _ c.map_err-2.ensures.cases c.in_err-header.was in (m.0, m.1, search rules)
+
+pub returns-in_err-header : goal.returns-in_err-header
+returns-in_err-header c =
+    let m = unread c in
+    let r = sym c.read_keys.ensures.read ∙ ap (parsed_by keys_in) m.1 in
+    rw (handed _ _ c.from_residual-in_err-header.ensures.1, m.2) (record { read = sym (log-keys-bad _ _ _ (scanned (goal.at.returns-in_err-header c).In_ok-e) _ r); few = tt })
 
 pub overflow_add-e : goal.overflow_add-e
-overflow_add-e c = let i = (first (row_of (goal.at.overflow_add-e c).After-read_keys-header)).inside in omega arith
+overflow_add-e c = let i = (first (goal.at.overflow_add-e c).In_ok-e).inside in omega arith
 
 pub slice_bounds-read_further-count : goal.slice_bounds-read_further-count
-slice_bounds-read_further-count c = let i = (first (row_of (goal.at.slice_bounds-read_further-count c).After-read_keys-header)).inside in omega arith
+slice_bounds-read_further-count c = let i = (first (goal.at.slice_bounds-read_further-count c).In_ok-e).inside in omega arith
 
 pub slice_bounds-read_further-start : goal.slice_bounds-read_further-start
-slice_bounds-read_further-start c = let i = (first (row_of (goal.at.slice_bounds-read_further-start c).After-read_keys-header)).inside in omega arith
+slice_bounds-read_further-start c = let i = (first (goal.at.slice_bounds-read_further-start c).In_ok-e).inside in omega arith
+
+pub returns : goal.returns
+returns c =
+    let s = c.args.s.now in
+    let m = named_ok _ _ _ _ c.map_err-2.ensures.cases c.in_ok-header.was in
+    let k = sym c.read_keys.ensures.read ∙ ap (parsed_by keys_in) m in
+    record { read = rw (rest s (c.in_ok-e.e + 2)) at c.read_further.ensures.read ∙ sym (log-keys _ _ _ (scanned (goal.at.returns c).In_ok-e) _ k); few = c.read_further.ensures.few }

@@ -1,12 +1,9 @@
 -- One owner, or two.
-use mathlib.Core.Path.{◌≡◌, sym, ap, ◌∙◌}
-use mathlib.Core.Bool.{Bool}
-use borrow.Author.Rules.{rules}
-use lib.IntN.{ℤ}
+use Rattle.std.proofs.Common.{◌≡◌, ◌∙◌, sym, ap, rules, Bool, ℤ}
 use mir.{Syntax.w32, ValLaws.to_z-of_z}
 use Rattle.model.specs.{Parsed.got, Head.secret}
 use Rattle.model.specs.declared.{Key.TheVariants.Secret, Owner.TheVariants.A}
-use Rattle.read_pair.specs.Pair.{pair_as}
+use Rattle.model.proofs.Handed.{refused-handed}
 use Rattle.read_secret.proofs.Laws.{single-bad, single-ok}
 use Rattle.read_secret.proofs.read_secret.Goals as goal
 
@@ -15,17 +12,16 @@ returns-then-owners c =
     let a = c.args in
     c.read_owned.ensures ∙ ap (λ (two : Bool). secret two a.keys a.next a.p.now) (sym c.if-owners.true)
 
-pub returns-in-Refused : goal.returns-in-Refused
-returns-in-Refused c =
+pub returns-in_err-k : goal.returns-in_err-k
+returns-in_err-k c =
     let a = c.args in
-    let p = c in
-    sym (single-bad a.keys a.next a.p.now _ (sym p.read_pair.ensures ∙ ap pair_as c.in-Refused.is))
-    ∙ ap (λ (two : Bool). secret two a.keys a.next a.p.now) (sym p.if-owners.false)
+    refused-handed _ _ c.from_residual.ensures.1
+    ∙ sym (single-bad a.keys a.next a.p.now _ (sym c.in_err-k.ensures))
+    ∙ ap (λ (two : Bool). secret two a.keys a.next a.p.now) (sym c.if-owners.false)
 
-pub returns-in-Got : goal.returns-in-Got
-returns-in-Got c =
+pub returns : goal.returns
+returns c =
     let a = c.args in
-    let p = c in
-    ap (λ (z : ℤ). got (c.in-Got.k, Secret A z)) (to_z-of_z w32 c.in-Got.dummy (search rules))
-    ∙ sym (single-ok a.keys a.next a.p.now _ _ (sym p.read_pair.ensures ∙ ap pair_as c.in-Got.is))
-    ∙ ap (λ (two : Bool). secret two a.keys a.next a.p.now) (sym p.if-owners.false)
+    ap (λ (z : ℤ). got (c.in_ok-k.k, Secret A z)) (to_z-of_z w32 c.in_ok-k.dummy (search rules))
+    ∙ sym (single-ok a.keys a.next a.p.now _ _ (sym c.in_ok-k.ensures))
+    ∙ ap (λ (two : Bool). secret two a.keys a.next a.p.now) (sym c.if-owners.false)

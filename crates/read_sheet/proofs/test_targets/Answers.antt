@@ -1,11 +1,10 @@
 -- The two cases of the first target that exceeds the count.
-use mathlib.Core.Path.{sym}
-use borrow.Author.Rules.{rules}
-use Rattle.read_sheet.proofs.Laws.{answers, not-both, targets-far, targets-near}
+use Rattle.std.proofs.Common.{◌≡◌, sym}
+use Rattle.read_program.proofs.Laws.{first-far}
 use Rattle.read_sheet.proofs.test_targets.Goals as goal
 
-pub returns-then-far-count : goal.returns-then-far-count
-returns-then-far-count c = answers (targets-far c.first_far-far.ensures _ _ c.if-far-count.true) c.refuse.ensures
+pub returns-in-None : goal.returns-in-None
+returns-in-None c = let h = first-far c.args.commands.now _ c.in-None.ensures in record { reading = λ j. sym (h.reading c.args.top j) }
 
-pub returns : goal.returns
-returns c = record { reading = sym (targets-near c.first_far-far.ensures _ _ c.if-far-count.false); stored = c.requires.0; nothing = λ n l e. not-both e }
+pub returns-in-Some : goal.returns-in-Some
+returns-in-Some c = let h = first-far c.args.commands.now _ c.in-Some.ensures in record { reading = λ j. sym (h.reading c.args.top j) }

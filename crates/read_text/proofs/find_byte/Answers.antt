@@ -1,10 +1,8 @@
 -- What is passed and what is still to search make up the place.
 use Rattle.model_text.proofs.TextLaws.{find-here, find-next, find-later, find-end}
-use Rattle.model.specs.Text.{find}
-use lib.ListN.{length, drop}
+use lib.ListN.{length}
 use native.Mathlib.Omega.{arith}
-use Prim.Native.Nat.{◌<◌, ◌≤◌, ◌+◌, ◌-◌}
-use mathlib.Core.Path.{◌≡◌}
+use Prim.Native.Nat.{◌<◌, ◌≤◌, ◌+◌}
 use Rattle.read_text.proofs.find_byte.Goals as goal
 
 pub returns-then-s-i : goal.returns-then-s-i

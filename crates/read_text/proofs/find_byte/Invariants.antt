@@ -1,9 +1,7 @@
 -- What is passed and what is still to search make up the place.
-use Rattle.model_text.proofs.TextLaws.{find-here, find-next, find-later, find-end}
 use Rattle.model.specs.Text.{find}
 use lib.ListN.{length, drop}
-use native.Mathlib.Omega.{arith}
-use Prim.Native.Nat.{◌<◌, ◌≤◌, ◌+◌, ◌-◌}
+use Prim.Native.Nat.{◌≤◌, ◌+◌, ◌-◌}
 use mathlib.Core.Path.{◌≡◌}
 use Rattle.read_text.proofs.find_byte.Given as goal
 

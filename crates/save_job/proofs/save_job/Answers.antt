@@ -1,19 +1,20 @@
 -- Too little memory, which is told by counting, or the sheet.
 use Prim.Native.Nat.{ℕ, ◌≤◌}
 use mathlib.Core.Path.{◌≡◌, refl, sym, ap, ◌∙◌}
-use mathlib.Core.Logic.{inl, inr, ⊎_elim}
+use mathlib.Core.Logic.{inl, inr}
 use native.Mathlib.Omega.{arith}
-use borrow.Author.Rules.{rules}
 use lib.ListN.{length}
-use Rattle.model.specs.{Stored.job_of, Written.written}
-use Rattle.model.specs.declared.TextAnswer.{TextAnswer}
+use Rattle.model.specs.{Stored.job_of, Written.told, Written.written}
+use Rattle.std.proofs.Common.{Err}
+use Rattle.model.specs.Refusal.{number_of}
+use Rattle.model.specs.declared.TextFault.{TextFault}
 use Rattle.model.proofs.Written.{write-short}
 use Rattle.model_sheet.specs.Sheet.{sheet_text}
 use Rattle.model_sheet.proofs.Short.{most-of-all}
 use Rattle.write_text.proofs.Laws.{put_count, put_written}
 use Rattle.save_job.proofs.save_job.Goals as goal
 use Rattle.save_job.proofs.save_job.Goals.{then-output-lt-LONGEST_SHEET+else-output-needed, else-output-lt-LONGEST_SHEET}
-use Rattle.save_job.proofs.save_job.Goals.{After-put_sheet-arg-1, After-put_sheet-n, After-put_sheet-needed, Start}
+use Rattle.save_job.proofs.save_job.Goals.{Joined-output-lt-LONGEST_SHEET, After-put_sheet-n, After-put_sheet-needed, Start}
 
 abbrev size_of : Start → ℕ
 size_of c = length (sheet_text (job_of c.args.job))
@@ -34,12 +35,12 @@ pub returns-then-output-needed : goal.returns-then-output-needed
 returns-then-output-needed c =
     let p = (goal.at.returns-then-output-needed c).After-put_sheet-needed in
     let a = p.args in
-    ap (λ (x : TextAnswer). written x a.output.now) c.refuse.ensures
-    ∙ sym (write-short a.short a.output.now (sheet_text (job_of a.job)) (omega (arith, counted p, c.if-output-needed.true)))
+    ap (λ (f : TextFault). written (told (Err f)) a.output.now) c.refuse.ensures
+    ∙ sym (write-short (number_of a.short) a.output.now (sheet_text (job_of a.job)) (omega (arith, counted p, c.if-output-needed.true)))
 
 -- there is room, by either way
-enough : (c : After-put_sheet-arg-1) → let s = (goal.at.After-put_sheet-arg-1 c).Start in size_of s ≤ length s.args.output.now
-enough c = let s = (goal.at.After-put_sheet-arg-1 c).Start in
+enough : (c : Joined-output-lt-LONGEST_SHEET) → let s = (goal.at.Joined-output-lt-LONGEST_SHEET c).Start in size_of s ≤ length s.args.output.now
+enough c = let s = (goal.at.Joined-output-lt-LONGEST_SHEET c).Start in
     elim c.if-output-lt-LONGEST_SHEET.branch [
       | then-output-lt-LONGEST_SHEET+else-output-needed w ↦ omega (arith, put_count w.put_sheet-needed.ensures, w.if-output-needed.false)
       | else-output-lt-LONGEST_SHEET w ↦ omega (arith, most s, w.if-output-lt-LONGEST_SHEET.false)
@@ -48,7 +49,7 @@ enough c = let s = (goal.at.After-put_sheet-arg-1 c).Start in
 pub put_sheet-n-requires : goal.put_sheet-n-requires
 put_sheet-n-requires c =
     let s = (goal.at.put_sheet-n-requires c).Start in
-    record { sound = s.requires.0; stored = s.requires.1; room = record { near = omega (arith, most s); fits = inr (omega (arith, enough c)) } }
+    record { sound = s.requires.0; stored = s.requires.1; room = record { near = omega (arith, most s); fits = inr (omega (arith, enough (goal.at.put_sheet-n-requires c).Joined-output-lt-LONGEST_SHEET)) } }
 
 pub overflow_cast-result : goal.overflow_cast-result
 overflow_cast-result c =
@@ -60,4 +61,4 @@ returns c =
     let w = (goal.at.returns c).After-put_sheet-n in
     let a = w.args in
     ap (λ (x : ℕ). written (record { number = 0; line = 0; bytes = x }) w.put_sheet-n.new.out) (put_count w.put_sheet-n.ensures)
-    ∙ sym (put_written a.short w.put_sheet-n.ensures (enough (goal.at.After-put_sheet-n w).After-put_sheet-arg-1))
+    ∙ sym (put_written (number_of a.short) w.put_sheet-n.ensures (enough (goal.at.After-put_sheet-n w).Joined-output-lt-LONGEST_SHEET))

@@ -1,25 +1,23 @@
--- Four bytes stored one after the other.
-use mathlib.Core.Path.{◌≡◌}
-use Prim.Native.Nat.{suc, ◌+◌}
-use native.Mathlib.Omega.{arith}
-use lib.ListN.{length-set}
-use borrow.Author.Rules.{rules}
+-- The four bytes stored are those of the number.
+use mathlib.Core.Path.{◌≡◌, refl, sym, ap, ap₂, ◌∙◌}
+use mathlib.Core.List.{List, ◌++◌}
+use Prim.Native.Nat.{ℕ, ◌+◌, ◌-◌, ◌≤◌}
+use native.Mathlib.{Omega.arith}
+use lib.{ListN.length, ListN.take, ListN.drop}
+use borrow.Rule.Slice.PartMut.{post_of, Post-is}
+use Rattle.std.specs.Int.{w32, to_le_bytes}
 use Rattle.model.specs.{Placed.placed, Answer.le32}
+use Rattle.model.proofs.Placed.{placed-between}
 use Rattle.write_answer.proofs.put32.Goals as goal
 
+le-is : (n : ℕ) → to_le_bytes w32 n ≡ le32 n
+unfolding le32
+le-is n = refl
+
+stored : (d : List ℕ) (at x : ℕ) → at + 4 ≤ length d → (s : List ℕ) → s ≡ le32 x → take at d ++ (s ++ post_of at (at + 4 - at) d) ≡ placed d at (le32 x)
+unfolding le32
+stored d at x room s e =
+    ap₂ (λ (s r : List ℕ). take at d ++ (s ++ r)) e (Post-is at (at + 4) d (omega arith)) ∙ sym (placed-between d at (le32 x) room)
+
 pub returns : goal.returns
-unfolding le32 placed
-returns c =
-    let e1 : c.args.at + 1 ≡ suc c.args.at = omega arith in
-    let e2 : c.args.at + 2 ≡ suc (suc c.args.at) = omega arith in
-    let e3 : c.args.at + 3 ≡ suc (suc (suc c.args.at)) = omega arith in
-    simp (e1, e2, e3)
-
-pub bounds-dst-at-2 : goal.bounds-dst-at-2
-bounds-dst-at-2 c = simp length-set (omega arith)
-
-pub bounds-dst-at-3 : goal.bounds-dst-at-3
-bounds-dst-at-3 c = simp length-set (omega arith)
-
-pub bounds-dst-at-4 : goal.bounds-dst-at-4
-bounds-dst-at-4 c = simp length-set (omega arith)
+returns c = stored c.args.dst.now c.args.at c.args.x c.requires c.copy_from_slice.new.self (c.copy_from_slice.ensures.after ∙ c.to_le_bytes.ensures ∙ le-is c.args.x)

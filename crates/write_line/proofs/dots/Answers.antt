@@ -1,23 +1,17 @@
--- The dots that are still to store make of the memory what all eleven make of it.
-use Prim.Native.Nat.{◌+◌}
-use mathlib.Core.Path.{◌≡◌, refl, sym, ◌∙◌}
+-- A part of eleven places, filled.
+use Prim.Native.Nat.{ℕ, ◌+◌, ◌-◌, ◌≤◌}
+use mathlib.Core.Path.{◌≡◌, ap, ◌∙◌}
 use native.Mathlib.Omega.{arith}
-use lib.ListN.{length, replicate, length-set}
+use lib.{ListN.length, ListN.take, ListN.drop, ListN.replicate, ListN.length-drop, Seq.length-take-le}
 use Rattle.model.specs.Text.{dot}
-use Rattle.model.specs.Placed.{placed}
-use Rattle.write_line.proofs.Laws.{dots-turn, dots-end}
+use Rattle.write_text.proofs.Laws.{placed_part}
 use Rattle.write_line.proofs.dots.Goals as goal
 
-pub loop-more-init : goal.loop-more-init
-loop-more-init c = (refl, refl, refl)
-
-pub loop-more-preserved : goal.loop-more-preserved
-loop-more-preserved c =
-    let l = c.loop-more in
-    (simp length-set l.invariant.0, omega arith, dots-turn l.out l.p l.more (omega arith) ∙ l.invariant.2)
-
-pub shape_of-out : goal.shape_of-out
-shape_of-out c = c.loop-more.invariant.0
-
 pub returns : goal.returns
-returns c = let l = c.loop-more in sym (dots-end l.out l.p l.more (omega arith)) ∙ l.invariant.2
+returns c =
+    let d = c.args.out.now in
+    let at = c.args.at in
+    let n = at + 11 - at in
+    let h : n ≤ length (drop at d) = omega (arith, length-drop at d) in
+    let eleven : length (take n (drop at d)) ≡ 11 = length-take-le n (drop at d) h ∙ omega arith in
+    placed_part d at {s = replicate 11 dot} (c.fill.ensures.after (λ y e. e) ∙ ap (λ (m : ℕ). replicate m dot) eleven) (omega arith) (omega arith)

@@ -1,31 +1,23 @@
--- Five bytes stored, and the digits placed after them.
-use mathlib.Core.Path.{◌∙◌}
+-- The name stored, and the digits placed after it.
+use mathlib.Core.Path.{ap, ◌∙◌}
+use mathlib.Core.List.{List, [], ◌∷◌}
+use Prim.Native.Nat.{ℕ, ◌+◌}
 use native.Mathlib.Omega.{arith}
-use lib.ListN.{length-set}
-use Rattle.model.specs.{Text.bytes}
+use Rattle.model.specs.{Text.bytes, Decimal.digits, Placed.placed}
+use Rattle.model.proofs.Placed.{placed-append}
 use Rattle.model_run.specs.{Line.heading}
-use Rattle.write_line.proofs.Laws.{five-placed}
-use borrow.Author.Rules.{rules}
+use Rattle.write_text.proofs.Laws.{placed_part}
 use Rattle.write_line.proofs.heading.Goals as goal
 
-pub shape_of-out : goal.shape_of-out
-shape_of-out c = c.spell.auto.out ∙ simp length-set
+-- `sent=`, as the code has it
+abbrev name : List ℕ
+name = 115 ∷ 101 ∷ 110 ∷ 116 ∷ 61 ∷ []
 
 pub returns : goal.returns
 unfolding heading bytes
-returns c = c.spell.ensures ∙ five-placed _ _ _ _ _ _ _ _
-
-pub bounds-out-at-2 : goal.bounds-out-at-2
-bounds-out-at-2 c = simp length-set (omega arith)
-
-pub bounds-out-at-3 : goal.bounds-out-at-3
-bounds-out-at-3 c = simp length-set (omega arith)
-
-pub bounds-out-at-4 : goal.bounds-out-at-4
-bounds-out-at-4 c = simp length-set (omega arith)
-
-pub bounds-out-at-5 : goal.bounds-out-at-5
-bounds-out-at-5 c = simp length-set (omega arith)
-
-pub spell-requires : goal.spell-requires
-spell-requires c = simp length-set (omega arith)
+returns c =
+    let a = c.args in
+    let d = digits 4 a.position in
+    c.spell.ensures
+    ∙ ap (λ (m : List ℕ). placed m (a.at + 5) d) (placed_part a.out.now a.at {s = name} c.copy_from_slice.ensures.after (omega arith) (omega arith))
+    ∙ placed-append a.out.now a.at name d

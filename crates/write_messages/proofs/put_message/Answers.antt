@@ -1,45 +1,36 @@
 -- The name, what follows it, and the line feed.
-use mathlib.Core.List.{List, [], ◌∷◌, ◌++◌}
+use native.Mathlib.Omega.{arith}
+use mathlib.Core.List.{List, [], ◌∷◌, ◌++◌, map}
+use mathlib.Core.Path.{◌≡◌, ap, ◌∙◌}
 use Prim.Native.Nat.{ℕ}
-use borrow.Author.Rules.{rules}
-use Rattle.model.specs.{Text.line_feed, Stored.entries_in}
+use lib.ListN.{take, length-take}
+use Rattle.std.proofs.lemmas.List.{take-map}
+use Rattle.model.specs.{Text.line_feed, Stored.entries_in, Stored.entry_in}
+use Rattle.model.specs.declared.MessageLine.{MessageLine}
 use Rattle.model_text.specs.Text.{message_text}
-use Rattle.write_text.specs.Put.{Room}
-use Rattle.write_text.proofs.Laws.{put_then, room-first, room_next}
-use Rattle.write_messages.proofs.Laws.{name, line-parts}
+use Rattle.write_text.proofs.Laws.{put_then, room_first, room_next}
+use Rattle.write_messages.specs.Messages.{line_text}
+use Rattle.write_messages.proofs.Laws.{name, line_parts}
 use Rattle.write_messages.proofs.put_message.Goals as goal
-use Rattle.write_messages.proofs.put_message.Goals.{After-put_byte, After-put_entries-end, After-put_word-value, Start}
 
--- what follows the equals sign, and that there is room for the whole
-abbrev value : Start → List ℕ
-value s = message_text (entries_in s.args.keys s.args.line)
+-- what follows the equals sign, as the code takes it from the array
+abbrev value : ℕ → MessageLine → List ℕ
+value n line = message_text (map entry_in (take n line.slots))
 
-room : (s : Start) → Room s.args.out.now s.args.at (name ++ (value s ++ (line_feed ∷ [])))
-room s = rw (line-parts (entries_in s.args.keys s.args.line)) at s.requires.1
-
--- and behind the name for the rest
-abbrev start_of : After-put_word-value → Start
-start_of c = (goal.at.After-put_word-value c).Start
-
-behind : (c : After-put_word-value) → Room c.put_word-value.new.out c.put_word-value.result (value (start_of c) ++ (line_feed ∷ []))
-behind c = let s = start_of c in room_next name (value s ++ (line_feed ∷ [])) (room s) c.put_word-value.ensures
-
-pub put_word-value-requires : goal.put_word-value-requires
-put_word-value-requires c = let s = (goal.at.put_word-value-requires c).Start in room-first name (value s ++ (line_feed ∷ [])) (room s)
+text : (n : ℕ) (line : MessageLine) → line_text (entries_in n line) ≡ name ++ (value n line ++ (line_feed ∷ []))
+text n line = line_parts (entries_in n line) ∙ ap (λ (es : List _). name ++ (message_text es ++ (line_feed ∷ []))) (take-map entry_in n line.slots)
 
 pub put_entries-end-requires : goal.put_entries-end-requires
-put_entries-end-requires c = let w = (goal.at.put_entries-end-requires c).After-put_word-value in ((start_of w).requires.0, room-first (value (start_of w)) (line_feed ∷ []) (behind w))
+put_entries-end-requires c =
+    let a = c.args in
+    let behind = room_next name _ (rw (text a.keys a.line.now) at c.requires.1) c.put_word-value.ensures in
+    (omega (arith, length-take a.keys a.line.now.slots), room_first (value a.keys a.line.now) (line_feed ∷ []) behind)
 
 pub put_byte-requires : goal.put_byte-requires
 put_byte-requires c =
-    let e = (goal.at.put_byte-requires c).After-put_entries-end in
-    let w = (goal.at.After-put_entries-end e).After-put_word-value in
-    room_next (value (start_of w)) (line_feed ∷ []) (behind w) e.put_entries-end.ensures
+    let a = c.args in
+    let behind = room_next name _ (rw (text a.keys a.line.now) at c.requires.1) c.put_word-value.ensures in
+    room_next (value a.keys a.line.now) (line_feed ∷ []) behind c.put_entries-end.ensures
 
 pub returns : goal.returns
-returns c =
-    let b = (goal.at.returns c).After-put_byte in
-    let e = (goal.at.After-put_byte b).After-put_entries-end in
-    let w = (goal.at.After-put_entries-end e).After-put_word-value in
-    let s = start_of w in
-    rw (line-parts (entries_in s.args.keys s.args.line)) (put_then w.put_word-value.ensures (put_then e.put_entries-end.ensures b.put_byte.ensures))
+returns c = rw (text c.args.keys c.args.line.now) (put_then c.put_word-value.ensures (put_then c.put_entries-end.ensures c.put_byte.ensures))

@@ -1,13 +1,11 @@
 -- The first i letters are stored.
-use Prim.Native.Nat.{ℕ, ◌-◌, ◌≤◌}
-use mathlib.Core.Path.{sym, ap, ◌∙◌}
-use native.Mathlib.Omega.{arith}
-use borrow.Author.Rules.{rules}
+use Prim.Native.Nat.{ℕ}
 use lib.ListN.{drop}
-use Rattle.model.specs.{Placed.front, Stored.first_of, Stored.level_of}
+use mathlib.Core.List.{map}
+use Rattle.model.specs.Stored.{level_of}
 use Rattle.model.specs.declared.Form.{Form}
 use Rattle.model_sheet.specs.Sheet.{letter_of}
-use Rattle.write_record.proofs.Laws.{Filling, filling-begins, each_more, each-ends, twice-shown}
+use Rattle.write_record.proofs.Laws.{Filling}
 use Rattle.write_record.proofs.letters_over.Given as goal
 
 -- the letter that a byte stands for
@@ -15,7 +13,4 @@ abbrev pub letter : Form → ℕ → ℕ
 letter f b = letter_of f (level_of b)
 
 abbrev pub invariant-loop-i : goal.invariant-loop-i
-invariant-loop-i l = (l.i ≤ l.count) × Filling l.initial.letters (first_of (letter l.form) l.count l.turns) l.letters l.i (drop l.i (first_of (letter l.form) l.count l.turns))
-
-abbrev pub decreases-loop-i : goal.decreases-loop-i
-decreases-loop-i l = l.count - l.i
+invariant-loop-i l = Filling l.initial.letters (map (letter l.form) l.turns) l.letters l.i (drop l.i (map (letter l.form) l.turns))

@@ -1,38 +1,24 @@
 -- Of the secrets, those from key k on are still to store.
-use Prim.Native.Nat.{◌-◌, ◌≤◌}
-use mathlib.Core.Path.{sym}
 use native.Mathlib.Omega.{arith}
 use borrow.Author.Rules.{rules}
-use lib.ListN.{length, drop}
 use mir.{Syntax.w32, ValLaws.to_z-of_z}
-use Rattle.model.specs.Stored.{keys_in}
-use Rattle.model_record.specs.Record.{records_from}
-use Rattle.write_record.proofs.Laws.{Filling, filling-begins, secrets-none, secrets-one, secrets-end}
+use Rattle.write_record.proofs.Laws.{secrets-none, secrets-one, secrets-end}
 use Rattle.write_record.proofs.secrets_over.Goals as goal
-
-pub loop-k-preserved-in-Open : goal.loop-k-preserved-in-Open
-loop-k-preserved-in-Open c =
-    let l = c in
-    let a = l.args in
-    (omega arith, omega arith, l.loop-k.invariant.2, secrets-none a.owners a.keys a.slots l.loop-k.invariant.2 l.loop-k.invariant.3 (omega arith) c.in-Open.is)
+use Rattle.write_record.proofs.secrets_over.Goals.{in-Secret, in_default}
 
 pub loop-k-preserved : goal.loop-k-preserved
 loop-k-preserved c =
-    let l = c in
-    let a = l.args in
-    let z = to_z-of_z w32 c.in-Secret.dummy (search rules) in (
-      omega arith,
-      omega arith,
-      l.loop-k.invariant.2,
-      rw (sym z, sym c.owner_number-number.ensures) at (secrets-one a.owners a.keys a.slots l.loop-k.invariant.2 l.loop-k.invariant.3 c.in-Secret.owner c.in-Secret.dummy (omega arith) c.in-Secret.is),
-    )
+    let a = c.args in
+    let h = c.loop-k.invariant in
+    elim c.match-slot.branch [
+      | in-Secret w ↦
+          let z = to_z-of_z w32 w.in-Secret.dummy (search rules) in
+          let e = secrets-one a.owners a.slots.now h.1 w.in-Secret.owner w.in-Secret.dummy c.loop-k-test.true w.in-Secret.is in
+          (omega (arith, h.0, w.count-is), rw (w.records-is, w.count-is, z, w.owner_number.ensures) e)
+      | in_default w ↦ (omega (arith, h.0, w.count-is), rw (w.records-is, w.count-is) (secrets-none a.owners a.slots.now h.1 c.loop-k-test.true w.in_default.is))
+    ]
 
 pub returns : goal.returns
 returns c =
-    let l = c in
-    let a = l.args in
-    let e = secrets-end a.owners a.keys a.slots l.loop-k.invariant.2 l.loop-k.invariant.3 (omega arith) (omega arith) in
+    let e = secrets-end c.args.owners c.args.slots.now c.loop-k.invariant.1 c.loop-k-test.false (omega (arith, c.loop-k.invariant, c.loop-k.auto, c.requires)) in
     record { count = e.0; secrets = e.1 }
-
-pub loop-k-init : goal.loop-k-init
-loop-k-init c = (omega arith, omega arith, omega arith, filling-begins)

@@ -4,7 +4,7 @@ use native.Mathlib.{Omega.arith, Nat.le_of_suc-le-suc, Nat.not-suc-le-zero, Nat.
 use mathlib.Core.Path.{◌≡◌, refl, sym, ap, ◌∙◌}
 use mathlib.Core.List.{List, [], ◌∷◌, ◌++◌}
 use Prim.Native.Nat.{ℕ, zero, suc, ◌+◌, ◌-◌, ◌/◌, ◌%◌, ◌≤◌, ◌<◌}
-use lib.{ListN.length, ListN.take, ListN.drop, ListN.set, ListN.length-set, ListN.take-append-drop, Seq.take-set-le, Seq.append_snoc}
+use lib.{ListN.length, ListN.take, ListN.drop, ListN.set, ListN.take-append-drop, Seq.take-set-le, Seq.append_snoc}
 use Rattle.model.specs.{Text.zero_digit, Decimal.digits}
 use Rattle.model.proofs.{Placed.placed-between, Decimal.digits-length}
 use Rattle.write_text.proofs.spell.Goals as goal
@@ -20,21 +20,12 @@ step at j rest out h =
     let le : at ≤ at + j = omega arith in
     rw (take-set-le at out (at + j) (zero_digit + rest % 10) le, drop-stored out (at + j) (zero_digit + rest % 10) h, append_snoc, add-suc)
 
-pub loop-i-init : goal.loop-i-init
-loop-i-init c = (refl, omega arith, refl)
-
 pub loop-i-preserved : goal.loop-i-preserved
 loop-i-preserved c =
     let l = c.loop-i in
     let at = c.args.at in
-    let whole : suc (l.i - 1) ≡ l.i = omega arith in (
-      simp length-set l.invariant.0,
-      omega arith,
-      step at (l.i - 1) l.rest l.out (omega arith) ∙ ap (λ (m : ℕ). todo at l.out m l.rest) whole ∙ l.invariant.2,
-    )
-
-pub shape_of-out : goal.shape_of-out
-shape_of-out c = c.loop-i.invariant.0
+    let whole : suc (l.i - 1) ≡ l.i = omega arith in
+    step at (l.i - 1) l.rest l.out (omega arith) ∙ ap (λ (m : ℕ). todo at l.out m l.rest) whole ∙ l.invariant
 
 pub returns : goal.returns
 unfolding digits
@@ -47,6 +38,6 @@ returns c =
     sym (take-append-drop at l.out)
     ∙ ap (λ (m : ℕ). take at l.out ++ drop m l.out) (sym (add-zero at))
     ∙ ap (λ (m : ℕ). todo at l.out m l.rest) (sym none)
-    ∙ l.invariant.2
+    ∙ l.invariant
     ∙ ap (λ (m : ℕ). take at a.out.now ++ (digits a.width a.n ++ drop (at + m) a.out.now)) (sym size)
     ∙ sym (placed-between a.out.now at (digits a.width a.n) (omega arith))

@@ -1,20 +1,28 @@
--- So many digits are counted, and the number has them.
-use Prim.Native.Nat.{◌+◌, ◌-◌, ◌<◌}
-use native.Mathlib.Omega.{arith}
-use Rattle.write_text.proofs.Laws.{Counting, counting-begins, counting-again, counting-ends, counting-few, counting-some}
+-- A power of ten that a number reaches, where the next is above it, has as many zeros as the number has further digits.
+use Prim.Native.Nat.{ℕ, zero, suc, ◌^◌, ◌<◌, ◌≤◌, max}
+use mathlib.Core.Path.{◌≡◌, refl, ◌∙◌}
+use mathlib.Core.Logic.{inl, inr}
+use native.Mathlib.{Omega.arith, Numerals.add-one}
+use Rattle.model.proofs.Decimal.{tens, tens-most}
+use Rattle.write_text.proofs.Laws.{Reached, width-found}
 use Rattle.write_text.proofs.width_of.Goals as goal
 
-pub loop-above-init : goal.loop-above-init
-loop-above-init c = (omega arith, counting-begins _)
+tens-power : (v : ℕ) → tens v ≡ 10 ^ v
+unfolding tens
+tens-power zero = refl
+tens-power (suc v) = omega (arith, tens-power v)
 
-pub overflow_add-w : goal.overflow_add-w
-overflow_add-w c = let few = counting-few _ _ _ c.loop-above.invariant.1 in omega arith
-
-pub loop-above-smaller : goal.loop-above-smaller
-loop-above-smaller c = let some = counting-some _ _ _ c.loop-above.invariant.1 in omega arith
-
-pub loop-above-preserved : goal.loop-above-preserved
-loop-above-preserved c = (c.loop-above.invariant.0, counting-again _ _ _ c.loop-above.invariant.0 c.loop-above-test.true c.loop-above.invariant.1)
+-- 0 has a digit as 1 has
+reached : (n m v : ℕ) → m ≡ max n 1 → tens v ≤ m → Reached v n
+reached n m zero e h = inl refl
+reached n m (suc v) e h = let t = tens-most v in inr (omega arith)
 
 pub returns : goal.returns
-returns c = counting-ends _ _ _ c.loop-above-test.false c.loop-above.invariant.1
+unfolding tens
+returns c =
+    let v = c.ilog10.result in
+    let t = tens-power v in
+    let e = c.ilog10.ensures in
+    let h : tens v ≤ c.max.result = omega arith in
+    let l : c.args.n < tens (suc v) = omega (arith, c.max.ensures) in
+    add-one v ∙ width-found v c.args.n (omega arith) l (reached c.args.n c.max.result v c.max.ensures h)

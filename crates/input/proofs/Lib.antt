@@ -1,2 +1,0 @@
--- For the programs: what was given lies within its limit.
-pub mod Laws

@@ -1,9 +1,0 @@
--- The two cases of the test.
-use borrow.Author.Tests.{lt-ltb, le-ltb}
-use Rattle.run_verdict.proofs.readable.Goals as goal
-
-pub returns-then-i-n : goal.returns-then-i-n
-returns-then-i-n c = simp (lt-ltb _ _ c.if-i-n.true)
-
-pub returns-else-i-n : goal.returns-else-i-n
-returns-else-i-n c = simp (le-ltb _ _ c.if-i-n.false)
