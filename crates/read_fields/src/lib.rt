@@ -1,5 +1,5 @@
-// The fields of a record one by one: whether a command and the letters are as they must be, what a command says, and
-// the owner that a number names.
+// The fields of a record one by one: whether an owner, a command and the letters are as they must be, and what an
+// owner and a command say.
 //
 // Tests that do not guard one another are joined by `&`, so that there is no branch between them.
 #![tactic(auto)]
@@ -13,16 +13,33 @@ use model::{Command, Form, LAST_VARIABLE, Owner, WORDS};
 use model_record::{CommandRecord, OWNER_A, OWNER_B};
 use pack_command::op_at;
 
-// The owner that a number names: where owners are named, by the letter `A` or `B`; else A, by 0.
-pub fn owner_of(owner: u32, owners: bool) -> Option<Owner>
+// Where owners are named, `A` or `B`; else 0.
+pub fn owner_fits(owner: u32, owners: bool) -> bool
+    ensures { result ≡ owner_fits owners owner }
+{
+    if owners {
+        return (owner == OWNER_A) | (owner == OWNER_B);
+    }
+    owner == 0
+}
+
+pub fn owner_of(owner: u32) -> Owner
+    ensures { result ≡ owner_of owner }
+{
+    if owner == OWNER_B {
+        return Owner::B;
+    }
+    Owner::A
+}
+
+// The owner that a number names, where it is as it must be.
+pub fn owner_named(owner: u32, owners: bool) -> Option<Owner>
     ensures { result ≡ cond (owner_fits owners owner) (Some (owner_of owner)) None }
 {
-    match owner {
-        OWNER_A if owners => Some(Owner::A),
-        OWNER_B if owners => Some(Owner::B),
-        0 if !owners => Some(Owner::A),
-        _ => None,
+    if owner_fits(owner, owners) {
+        return Some(owner_of(owner));
     }
+    None
 }
 
 // The most that an operand may be, where the word has it: one that it lacks is 0.

@@ -5,17 +5,17 @@
 #![tactic(auto)]
 
 ghost use Rattle.std.specs.Prelude.{◌≡◌, ◌≤◌, length};
-ghost use Rattle.model.specs.{Stored.key_capacity, Stored.command_capacity, Stored.message_capacity};
+ghost use Rattle.model.specs.{Stored.key_capacity, Stored.command_capacity, Stored.message_capacity, Stored.nothing_stored};
 ghost use Rattle.model.specs.Accepted.{all};
 ghost use Rattle.model_record.specs.Record.{counts_fit, secrets_fit, command_fits, message_fits, passes};
-ghost use Rattle.read_record.specs.Read.{Gives, Hidden, Taken, Line, Lines, Said};
+ghost use Rattle.read_record.specs.Read.{Gives, Hidden, Taken, Line, Lines, Said, Emptied};
 
 use model::{
     COMMAND_CAPACITY, Command, Entry, EntrySlot, FORMS, Form, KEY_CAPACITY, Key, KeySlot,
-    MESSAGE_CAPACITY, MessageLine, StoredJob,
+    LETTER_CAPACITY, MESSAGE_CAPACITY, MessageLine, StoredJob,
 };
 use model_record::{CommandRecord, JobRecord, MessageRecord, SecretRecord};
-use read_fields::{command_fits, command_of, letters_fit, owner_of};
+use read_fields::{command_fits, command_of, letters_fit, owner_named};
 
 fn secrets_of(
     secrets: &[SecretRecord],
@@ -29,7 +29,7 @@ fn secrets_of(
     let mut next: usize = 0;
     for s in secrets {
         let key = s.key as usize;
-        let owner = owner_of(s.owner, owners)?;
+        let owner = owner_named(s.owner, owners)?;
         let fits = (next <= key) & (key < keys);
         if !fits {
             return None;
@@ -110,8 +110,9 @@ fn counts_fit(r: &JobRecord) -> bool
         & (r.letter_count as usize <= form.letters)
 }
 
-// Any record at all is taken. Its job goes into the caller's: answered by value, it would take 2 KB more of stack.
-pub fn read_record(r: JobRecord, job: &mut StoredJob) -> Option<()>
+// The parts one after the other, each into the job as soon as it is read.
+#[inline(always)]
+fn read_parts(r: JobRecord, job: &mut StoredJob) -> Option<()>
     ensures { Gives (passes r) (Said r job.new) result }
 {
     if !counts_fit(&r) {
@@ -139,4 +140,34 @@ pub fn read_record(r: JobRecord, job: &mut StoredJob) -> Option<()>
     job.turn_count = turn_count;
     job.turns = r.letters;
     Some(())
+}
+
+// Part by part, so that no second job stands beside the caller's.
+fn empty(job: &mut StoredJob)
+    ensures { job.new ≡ nothing_stored }
+{
+    job.form = 1;
+    job.keys = 0;
+    job.secrets = StoredJob::open_keys();
+    job.command_count = 0;
+    job.commands = StoredJob::no_commands();
+    job.message_count = 0;
+    job.messages = StoredJob::no_messages();
+    job.turn_count = 0;
+    job.turns = [0; LETTER_CAPACITY];
+}
+
+// Any record at all is taken. Its job goes into the caller's: answered by value, it would take 2 KB more of stack. Where
+// the record does not pass, the caller's job is the one whose counts are all 0.
+pub fn read_record(r: JobRecord, job: &mut StoredJob) -> Option<()>
+    ensures passing { Gives (passes r) (Said r job.new) result }
+    ensures refused { Emptied job.new result }
+{
+    match read_parts(r, job) {
+        Some(()) => Some(()),
+        None => {
+            empty(job);
+            None
+        }
+    }
 }

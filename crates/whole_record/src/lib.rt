@@ -82,6 +82,8 @@ pub fn resave(sheet: &[u8], output: &mut [u8]) -> Result<u32, TextFault>
     ensures { written (told result) output.new ≡ resaved sheet.now output.old }
 {
     let mut r = blank();
-    open_sheet(sheet, &mut r)?;
-    save_record(r, output)
+    match open_sheet(sheet, &mut r) {
+        Ok(()) => save_record(r, output),
+        Err(fault) => Err(TextFault::from(fault)),
+    }
 }

@@ -3,8 +3,8 @@ use mathlib.Core.Path.{◌≡◌, refl, sym, ap, ap₂, ◌∙◌}
 use mathlib.Core.Logic.{◌⊎◌, inl, inr, ⊎_elim}
 use mathlib.Core.List.{List, [], ◌∷◌, ◌++◌}
 use Prim.Native.Nat.{ℕ, zero, suc, ◌+◌, ◌/◌, ◌<◌, ◌≤◌}
-use native.Mathlib.{Omega.arith}
-use lib.{ListN.length, ListN.take, ListN.drop, ListN.set, ListN.length-append, Seq.set_out, IntN.ℤ, IntN.pos, IntN.negsuc}
+use native.Mathlib.{Omega.arith, Numerals.add-one}
+use lib.{ListN.length, ListN.take, ListN.drop, ListN.get_or, ListN.set, ListN.length-append, Seq.drop-cons, Seq.set_out, IntN.ℤ, IntN.pos, IntN.negsuc}
 use lib.{IntN.nat_abs, Signed.lt_z}
 use borrow.Author.Tests.{lt-ltb, le-ltb}
 use Rattle.model.specs.{Placed.placed, Decimal.digits, Decimal.width_to, Decimal.width, Decimal.most_digits, Decimal.natural, Decimal.whole, Written.text, Written.written}
@@ -152,6 +152,10 @@ pub putting-room : {d s d' : List ℕ} {at p : ℕ} (t rest : List ℕ) → Room
 putting-room t rest r n h =
     let l = length-append t rest in
     record { near = omega (arith, r.near, h.place); fits = ⊎_elim (λ e. inl (n ∙ e)) (λ e. inr (omega (arith, h.place))) r.fits }
+
+-- a byte of a word, and those behind it
+pub word_more : (w : List ℕ) (i : ℕ) → i < length w → drop i w ≡ (get_or w i 0 ∷ []) ++ drop (i + 1) w
+word_more w i h = drop-cons w i 0 h ∙ rw (add-one i)
 
 -- nothing is left
 pub putting-ends : {d s d' rest : List ℕ} {at p : ℕ} → rest ≡ [] → Putting d at s d' p rest → Put d at s d' p

@@ -52,16 +52,16 @@ pub fn put_if(out: &mut [u8], at: usize, wanted: bool, b: u8) -> usize
     at
 }
 
-#[tactic(auto, using(crate::proofs::Laws::stored))]
+// Byte by byte: `copy_from_slice` of a word whose length is not known is compiled to a call of `memmove`, which the
+// archive needs for nothing else.
 pub fn put_word(out: &mut [u8], at: usize, word: &[u8]) -> usize
     requires { Room out.old at word.now }
     ensures { Put out.old at word.now out.new result }
 {
-    let next = at + word.len();
-    if at < out.len() {
-        out[at..next].copy_from_slice(word);
+    for (i, &b) in word.iter().enumerate() {
+        put_byte(out, at + i, b);
     }
-    next
+    at + word.len()
 }
 
 // A number at its natural width.

@@ -5,7 +5,7 @@ use native.Mathlib.Omega.{arith}
 use borrow.Author.Rules.{rules}
 use lib.Seq.{length-take-le}
 use Rattle.read_record.proofs.Whole.{few, counts-bad, secrets-bad, commands-bad, messages-bad, letters-last, secrets-by, commands-by, letters-by, whole, length-mapped}
-use Rattle.read_record.proofs.read_record.Goals as goal
+use Rattle.read_record.proofs.read_parts.Goals as goal
 
 pub returns-then-not-counts_fit : goal.returns-then-not-counts_fit
 returns-then-not-counts_fit c = counts-bad c.args.r (sym c.counts_fit.ensures ∙ c.if-not-counts_fit.true)
