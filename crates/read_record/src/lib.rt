@@ -157,8 +157,8 @@ fn empty(job: &mut StoredJob)
     job.turns = [0; LETTER_CAPACITY];
 }
 
-// Any record at all is taken. Its job goes into the caller's: answered by value, it would take 2 KB more of stack. Where
-// the record does not pass, the caller's job is the one whose counts are all 0.
+// Any record at all is taken. Its job goes into the caller's: answered by value, it would take 2 KB more of stack.
+// Where the record does not pass, the caller's job is the one whose counts are all 0.
 pub fn read_record(r: JobRecord, job: &mut StoredJob) -> Option<()>
     ensures passing { Gives (passes r) (Said r job.new) result }
     ensures refused { Emptied job.new result }
