@@ -14,7 +14,7 @@ use whole_blocks::write_blocks;
 use whole_forms::turn_sheet;
 use whole_log::write_log;
 use whole_sheet::run_sheet;
-use write_answer::{numbers, put_numbers, text_numbers};
+use write_answer::{put_numbers, run_numbers, written_numbers};
 
 // An answer memory of another length than 28 bytes gets 10, and nothing is written; else the sheet is run on the
 // output memory, the seven numbers go into the answer memory, and the first of them is returned.
@@ -24,7 +24,7 @@ pub fn run_into(sheet: &[u8], output: &mut [u8], answer: &mut [u8]) -> u32
     if answer.len() != ANSWER_BYTES {
         return 10;
     }
-    let ns = numbers(run_sheet(sheet, output));
+    let ns = run_numbers(run_sheet(sheet, output));
     put_numbers(answer, &ns);
     ns[0]
 }
@@ -44,7 +44,7 @@ fn enter<F: FnOnce(&mut [u8]) -> Result<u32, TextFault>>(
     if answer.len() != TEXT_ANSWER_BYTES {
         return 10;
     }
-    let told = text_numbers(writing(output));
+    let told = written_numbers(writing(output));
     put_numbers(answer, &told);
     told[0]
 }

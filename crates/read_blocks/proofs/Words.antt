@@ -15,7 +15,7 @@ use Rattle.model_blocks.specs.Dialect.{block_word, own_command, tested}
 use Rattle.read_command.specs.{Code.code_of, Code.said_by, Code.lookup, Command.one_of, Command.single}
 use Rattle.read_command.proofs.Words.{Bytes, code_same, word-short, small}
 use Rattle.pack_command.specs.Pack.{Packable}
-use Rattle.read_dialect.specs.Words.{by_code, left_out}
+use Rattle.read_dialect.specs.Words.{by_code, goes_elsewhere}
 
 -- ---- Which word it is
 
@@ -61,14 +61,14 @@ module _ (K : ℕ) (w : List ℕ) (ps : List (List ℕ)) where
   own-unknown {n} h = sym (own_as (Parsed.refused n) h)
 
   module _ (o : Op) (os : List Operand) (h : got (o, os) ≡ lookup w) where
-    pub own-left-out : true ≡ left_out o → own_command K w ps ≡ Parsed.refused 6
+    pub own-left-out : true ≡ goes_elsewhere o → own_command K w ps ≡ Parsed.refused 6
     own-left-out e = own_as (got (o, os)) h ∙ go (allowed (way_of o)) _ e
       where
         go : (t : Bool) (c : Parsed Command) → true ≡ not t → (need t 6 >> c) ≡ Parsed.refused 6
         go true c e = absurd (true≢false e)
         go false c e = refl
 
-    pub own-by-word : false ≡ left_out o → own_command K w ps ≡ by_row (limits K 0) o os ps
+    pub own-by-word : false ≡ goes_elsewhere o → own_command K w ps ≡ by_row (limits K 0) o os ps
     own-by-word e = own_as (got (o, os)) h ∙ go (allowed (way_of o)) _ e
       where
         go : (t : Bool) (c : Parsed Command) → false ≡ not t → (need t 6 >> c) ≡ c

@@ -16,8 +16,8 @@ ghost use Rattle.read_blocks.specs.Blocks.{next_line, fault, Sane, LineAt, ItemR
 ghost use Rattle.read_blocks.specs.Blocks.{ProgramRead, near_by, opener_word};
 
 use model::{Command, Form, LAST_VARIABLE, Op, Refusal, TextFault};
-use read_command::{FirstWord, first_word, one_part, read_operands, word_by_code};
-use read_dialect::{LineWord, is_left_out, keep, said_by};
+use read_command::{FirstWord, first_word, one_part, read_by_row, word_by_code};
+use read_dialect::{LineWord, goes_elsewhere, keep, said_by};
 use read_line::spoilt_line;
 use read_text::find_byte;
 
@@ -94,10 +94,10 @@ fn own_command(l: &[u8], keys: u64, w: FirstWord) -> Result<Command, Refusal>
     ensures { parsed result ≡ own_command keys (take w.end l.now) (parts_after w.end l.now) }
 {
     let (op, shape) = word_by_code(w.code)?;
-    if is_left_out(op) {
+    if goes_elsewhere(op) {
         return Err(Refusal::BadCommand);
     }
-    read_operands(op, shape, l, w.end, keys, 0)
+    read_by_row(op, shape, l, w.end, keys, 0)
 }
 
 // The v of `if v` and `while v`, of a line whose first word ends at e.

@@ -9,7 +9,7 @@ ghost use lib.{IntN.pos, ListN.take};
 ghost use Rattle.model.specs.{Limits.variables, Text.find, Text.space, Text.split, Number.number, Number.up_to, Refusal.parsed, Refusal.parsed_by};
 ghost use Rattle.model.specs.Command.{by_row, limits, table, read_command};
 ghost use Rattle.read_command.specs.Code.{code_of, lookup_code, six_bytes, with_count};
-ghost use Rattle.read_command.specs.Command.{Fair, Fields, command_of, halves, mapped, one_of, parts_after, shape_as, two_of, with_number, word_as};
+ghost use Rattle.read_command.specs.Command.{Fair, Fields, by_word, command_of, halves, mapped, one_of, parts_after, shape_as, two_of, with_number, word_as};
 
 use model::{Command, LAST_VARIABLE, Op, Refusal};
 use read_text::{find_byte, number_of, up_to};
@@ -195,8 +195,8 @@ fn read_parts(op: Op, shape: Shape, t: &[u8], keys: u64, target: u64) -> Result<
     }
 }
 
-// What a word with its parts says: the word ends at e.
-pub fn read_operands(
+// What a row of the table says of the parts of its word, which ends at e.
+pub fn read_by_row(
     op: Op,
     shape: Shape,
     s: &[u8],
@@ -216,12 +216,28 @@ pub fn read_operands(
     }
 }
 
+// What a word with its parts says, or that the table lacks the word, which ends at e. Inlined, so that a caller that
+// has just looked the word up does not ask twice whether it is there.
+#[inline(always)]
+pub fn read_operands(
+    word: Result<(Op, Shape), Refusal>,
+    s: &[u8],
+    e: usize,
+    keys: u64,
+    target: u64,
+) -> Result<Command, Refusal>
+    requires { Fair keys target }
+    ensures { parsed result ≡ by_word (limits keys target) (parsed_by word_as word) (parts_after e s.now) }
+{
+    let (op, shape) = word?;
+    read_by_row(op, shape, s, e, keys, target)
+}
+
 // What follows `do=`, where there are so many keys and no target above the highest is read.
 pub fn read_command(s: &[u8], keys: u64, target: u64) -> Result<Command, Refusal>
     requires { Fair keys target }
     ensures { parsed result ≡ read_command (limits keys target) s.now }
 {
     let w = first_word(s);
-    let (op, shape) = word_by_code(w.code)?;
-    read_operands(op, shape, s, w.end, keys, target)
+    read_operands(word_by_code(w.code), s, w.end, keys, target)
 }

@@ -1,8 +1,8 @@
 -- What the code says of the dialect's words.
-use Rattle.std.specs.Prelude.{ℕ, Bool, cond, not}
+use Rattle.std.specs.Prelude.{ℕ, Bool, false, cond, not, List}
 use lib.{Dec.eqb}
-use Rattle.model.specs.Text.{bytes}
-use Rattle.model.specs.declared.Op.{Op}
+use Rattle.model.specs.{Parsed.Parsed, Parsed.got, Text.bytes}
+use Rattle.model.specs.declared.{Op.Op, Operand.Operand}
 use Rattle.model_blocks.specs.Block.{way_of, allowed}
 use Rattle.model_blocks.specs.Dialect.{BlockWord, if_word, else_word, while_word, end_word, other_word}
 use Rattle.read_command.specs.Code.{code_of}
@@ -25,6 +25,11 @@ by_code x =
     (cond (eqb x (code_of (bytes "end"))) end_word
     other_word)))
 
--- a command of the table that the dialect leaves out
-abbrev pub left_out : Op → Bool
-left_out o = not (allowed (way_of o))
+-- a command of the table that goes to a target
+abbrev pub goes_elsewhere : Op → Bool
+goes_elsewhere o = not (allowed (way_of o))
+
+-- a word of the table that the dialect leaves out
+abbrev pub left_out : Parsed (Op × List Operand) → Bool
+left_out (got x) = goes_elsewhere x.0
+left_out (Parsed.refused n) = false

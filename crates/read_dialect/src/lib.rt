@@ -3,11 +3,14 @@
 #![tactic(auto)]
 
 ghost use Rattle.std.specs.Prelude.{◌≡◌, set};
+ghost use Rattle.model.specs.Refusal.{parsed_by};
+ghost use Rattle.read_command.specs.Command.{word_as};
 ghost use Rattle.pack_command.specs.Pack.{command_number, Packable};
-ghost use Rattle.read_dialect.specs.Words.{said_as, by_code, left_out};
+ghost use Rattle.read_dialect.specs.Words.{said_as, by_code, goes_elsewhere, left_out};
 
-use model::{Command, Op};
+use model::{Command, Op, Refusal};
 use pack_command::pack;
+use read_command::Shape;
 
 // What the first word of a line says.
 #[derive(Clone, Copy)]
@@ -33,11 +36,21 @@ pub fn said_by(code: u64) -> LineWord
     }
 }
 
-// A command of the table that goes to a target, which the dialect leaves out.
-pub fn is_left_out(op: Op) -> bool
-    ensures { result ≡ left_out op }
+// Whether a command goes to a target: the dialect leaves it out.
+pub fn goes_elsewhere(op: Op) -> bool
+    ensures { result ≡ goes_elsewhere op }
 {
     matches!(op, Op::IfNeg | Op::IfZero | Op::Jump)
+}
+
+// A word of the table that goes to a target, which the dialect leaves out.
+pub fn is_left_out(word: Result<(Op, Shape), Refusal>) -> bool
+    ensures { result ≡ left_out (parsed_by word_as word) }
+{
+    match word {
+        Ok((op, _)) => goes_elsewhere(op),
+        Err(_) => false,
+    }
 }
 
 // Keeps a command at its place, if the memory reaches so far.

@@ -13,7 +13,7 @@ use model::{
 };
 use run_message::{cleared, received, side, with};
 use run_step::{call_of, effect_at, holds};
-use run_verdict::{ended, level_of, made, readable, taken_after, ticked, waits};
+use run_verdict::{ended, level_of, made_call, readable, taken_after, ticked, waits};
 use write_line::{heading, key_cell, line_end};
 
 // One command of a level's execution, of this kind of call: of its record and of the message only what changes moves.
@@ -62,7 +62,7 @@ fn follow(
         let c = job.commands[x.place];
         let call = call_of(c.op);
         let j = x.calls;
-        if !waits(call, made(j, calls, kinds[j])) {
+        if !waits(call, made_call(j, calls, kinds[j])) {
             step(c, call, level, x, message, job.command_count);
         }
     }

@@ -6,9 +6,12 @@ ghost use Rattle.std.specs.Prelude.{◌≡◌, cond, ◌+◌, ◌<◌, ltb};
 ghost use Rattle.model_run.specs.{Verdict.waits as Verdict·waits, State.ticked as Clock·ticked};
 ghost use Rattle.model.specs.{Stored.level_of};
 ghost use Rattle.model.specs.declared.{Call.TheVariants.Neither};
-ghost use Rattle.run_verdict.specs.Verdict.{CountsFit, counts_as};
+ghost use Rattle.run_verdict.specs.Verdict.{CountsFit, counts_as, kind_of};
 
 use model::{Call, Clock, Counts, Ended, Ending, Level, Owner};
+
+// A receive as a byte; any other byte is a send.
+const RECEIVED: u8 = 0;
 
 // The level whose turn a letter is.
 pub fn level_of(letter: u8) -> Level
@@ -37,10 +40,27 @@ pub fn taken_after(taken: usize, lines: usize) -> usize
 
 // The kind of the low call number j, counted from 0, of n that are made; kind is what is stored for it. Neither where
 // it is not made yet.
-pub fn made(j: usize, n: usize, kind: Call) -> Call
+pub fn made_call(j: usize, n: usize, kind: Call) -> Call
     ensures { result ≡ cond (ltb j n) kind Neither }
 {
     if j < n { kind } else { Call::Neither }
+}
+
+// The kind of call that a byte stands for.
+fn kind_of(kind: u8) -> Call
+    ensures { result ≡ kind_of kind }
+{
+    match kind {
+        RECEIVED => Call::Receives,
+        _ => Call::Sends,
+    }
+}
+
+// As `made_call`, where what is stored for the call is a byte.
+pub fn made(j: usize, n: usize, kind: u8) -> Call
+    ensures { result ≡ cond (ltb j n) (kind_of kind) Neither }
+{
+    made_call(j, n, kind_of(kind))
 }
 
 // Whether an execution that follows waits at its call: the low call of the same number has not been made, or was of

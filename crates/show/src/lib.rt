@@ -10,7 +10,7 @@ use model::{Ended, Fault};
 use std::io;
 use std::io::Write;
 use whole_sheet::run_sheet;
-use write_answer::numbers;
+use write_answer::run_numbers;
 
 // Runs the sheet on the output memory, and prints the sent lines and then `end=` with the seven numbers. The output
 // memory is left as the run left it, also where printing fails.
@@ -25,6 +25,6 @@ pub fn run_and_print<W: Write>(
         (printed sheet.now output.old)) }
 {
     let run = run_sheet(sheet, output);
-    let printed = terminal::print_run(stdout, numbers(run), output);
+    let printed = terminal::print_run(stdout, run_numbers(run), output);
     (run, printed)
 }

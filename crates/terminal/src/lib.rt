@@ -11,7 +11,7 @@ ghost use Rattle.terminal.specs.Printed.{line_of, answer_line, text_bytes, text_
 use model::{NUMBERS, TEXT_NUMBERS, TextFault};
 use std::io;
 use std::io::{Read, Write};
-use write_answer::text_numbers;
+use write_answer::written_numbers;
 
 // Reads until the buffer is full or the input ends, however few bytes a read gives, and answers how many bytes it has
 // read. A read that fails is told apart from the end.
@@ -114,6 +114,6 @@ where
         (said_of (written (told result.0) output.new))) }
 {
     let wrote = writing(output);
-    let printed = print_text(stdout, stderr, text_numbers(wrote), output);
+    let printed = print_text(stdout, stderr, written_numbers(wrote), output);
     (wrote, printed)
 }

@@ -9,7 +9,7 @@ ghost use Rattle.model_forms.specs.Forms.{turn as turns, turn_sheet};
 use model::{Refusal, StoredJob, TextFault};
 use model_forms::Asked;
 use read_sheet::read_sheet;
-use save_job::save_changed;
+use save_job::try_save_changed;
 use turn_form::turn;
 
 // Writes a job in the form asked for. Called and not inlined, so that what it makes takes no stack while the sheet is
@@ -20,7 +20,7 @@ fn save_turned(job: StoredJob, asked: Asked, output: &mut [u8]) -> Result<u32, T
     ensures { written (told result) output.new ≡ write 49 output.old (draft_of (turns asked (job_of job))) }
 {
     let turned = turn(job, asked);
-    save_changed(turned, Refusal::ShortForForm, output)
+    try_save_changed(turned, Refusal::ShortForForm, output)
 }
 
 // Writes the sheet in the form asked for into the output memory, or refuses and writes nothing. Any bytes at all are

@@ -13,7 +13,7 @@ use model_record::{
 };
 use read_record::read_record;
 use read_sheet::read_sheet;
-use save_job::{refuse, save_job};
+use save_job::{try_save_job, without_line};
 use write_record::record_over;
 
 // Writes the sheet of a record into the output memory, or refuses and writes nothing. Any record at all is taken.
@@ -22,8 +22,8 @@ pub fn save_record(r: JobRecord, output: &mut [u8]) -> Result<u32, TextFault>
 {
     let mut job = StoredJob::nothing();
     match read_record(r, &mut job) {
-        Some(()) => save_job(job, Refusal::ShortForRecord, output),
-        None => Err(refuse(Refusal::BadRecord)),
+        Some(()) => try_save_job(job, Refusal::ShortForRecord, output),
+        None => Err(without_line(Refusal::BadRecord)),
     }
 }
 

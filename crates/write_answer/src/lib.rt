@@ -3,13 +3,14 @@
 
 ghost use Rattle.std.specs.Prelude.{◌≡◌, ◌+◌, ◌≤◌, length};
 ghost use Rattle.model.specs.{Placed.placed, Answer.numbers_of, Answer.answer_as, Answer.le32, Answer.all_le32, Answer.bytes_for, Written.low_numbers, Written.told};
+ghost use Rattle.write_answer.specs.Told.{answer_by};
 
-use model::{Ended, Fault, NUMBERS, TEXT_NUMBERS, TextFault};
+use model::{Ended, Fault, NUMBERS, TEXT_NUMBERS, TextAnswer, TextFault};
 
-// The seven numbers of a run's answer.
+// The seven numbers of a run's answer. A refusal is any number with any line.
 #[tactic(auto, unfolding(model::specs::Answer::numbers_of))]
-pub fn numbers(run: Result<Ended, Fault>) -> [u32; NUMBERS]
-    ensures { result ≡ numbers_of (answer_as run) }
+pub fn numbers(run: Result<Ended, (u32, u32)>) -> [u32; NUMBERS]
+    ensures { result ≡ numbers_of (answer_by run) }
 {
     match run {
         Ok(Ended { ending, counts }) => {
@@ -23,22 +24,50 @@ pub fn numbers(run: Result<Ended, Fault>) -> [u32; NUMBERS]
                 counts.clamped,
             ]
         }
-        Err(Fault { refusal, line }) => [u32::from(refusal), line, 0, 0, 0, 0, 0],
+        Err((number, line)) => [number, line, 0, 0, 0, 0, 0],
+    }
+}
+
+// The same where a run is refused with a fault.
+pub fn run_numbers(run: Result<Ended, Fault>) -> [u32; NUMBERS]
+    ensures { result ≡ numbers_of (answer_as run) }
+{
+    match run {
+        Ok(ended) => numbers(Ok(ended)),
+        Err(Fault { refusal, line }) => numbers(Err((u32::from(refusal), line))),
     }
 }
 
 // The three numbers of the answer to the writing of a text, each as much of it as 32 bits hold.
-pub fn text_numbers(wrote: Result<u32, TextFault>) -> [u32; TEXT_NUMBERS]
-    ensures { result ≡ low_numbers (told wrote) }
+pub fn text_numbers(a: TextAnswer) -> [u32; TEXT_NUMBERS]
+    ensures { result ≡ low_numbers a }
+{
+    [a.number, (a.line % 4294967296) as u32, a.bytes]
+}
+
+// What the writing of a text answers.
+fn told(wrote: Result<u32, TextFault>) -> TextAnswer
+    ensures { result ≡ told wrote }
 {
     match wrote {
-        Ok(bytes) => [0, 0, bytes],
-        Err(fault) => [
-            u32::from(fault.refusal),
-            (fault.line % 4294967296) as u32,
-            0,
-        ],
+        Ok(bytes) => TextAnswer {
+            number: 0,
+            line: 0,
+            bytes,
+        },
+        Err(TextFault { refusal, line }) => TextAnswer {
+            number: u32::from(refusal),
+            line,
+            bytes: 0,
+        },
     }
+}
+
+// Its three numbers.
+pub fn written_numbers(wrote: Result<u32, TextFault>) -> [u32; TEXT_NUMBERS]
+    ensures { result ≡ low_numbers (told wrote) }
+{
+    text_numbers(told(wrote))
 }
 
 // Stores x in four bytes from the place at on, low byte first.

@@ -13,4 +13,4 @@ returns-then-answer-ne-TEXT_ANSWER_BYTES g c = λ w h. text-other _ _ w c.if-ans
 pub returns : goal.returns
 returns g c =
     λ w h. text-leaves _ _ w (search rules) (h c.writing.result c.writing.new.arg2 (search rules))
-    (ap (λ (l : List ℕ). get_or l 0 0) c.text_numbers-told.ensures, c.put_numbers.ensures ∙ ap all_le32 c.text_numbers-told.ensures ∙ low-bytes _)
+    (ap (λ (l : List ℕ). get_or l 0 0) c.written_numbers-told.ensures, c.put_numbers.ensures ∙ ap all_le32 c.written_numbers-told.ensures ∙ low-bytes _)

@@ -15,14 +15,14 @@ asked c = lookup-at _ _ _ (λ i. omega (arith, c.type_inv.l i)) c.requires.3
 pub returns-in_err-op : goal.returns-in_err-op
 returns-in_err-op c = refused-handed _ _ c.from_residual.ensures.1 ∙ own-unknown _ _ _ (c.in_err-op.ensures ∙ asked (goal.at.returns-in_err-op c).After-word_by_code)
 
-pub returns-then-is_left_out : goal.returns-then-is_left_out
-returns-then-is_left_out c =
-    sym (own-left-out _ _ _ _ _ (c.in_ok-op.ensures ∙ asked (goal.at.returns-then-is_left_out c).After-word_by_code) (sym c.if-is_left_out.true ∙ c.is_left_out.ensures))
+pub returns-then-goes_elsewhere : goal.returns-then-goes_elsewhere
+returns-then-goes_elsewhere c =
+    sym (own-left-out _ _ _ _ _ (c.in_ok-op.ensures ∙ asked (goal.at.returns-then-goes_elsewhere c).After-word_by_code) (sym c.if-goes_elsewhere.true ∙ c.goes_elsewhere.ensures))
 
 pub returns : goal.returns
 returns c =
-    c.read_operands.ensures
-    ∙ sym (own-by-word _ _ _ _ _ (c.in_ok-op.ensures ∙ asked (goal.at.returns c).After-word_by_code) (sym c.if-is_left_out.false ∙ c.is_left_out.ensures))
+    c.read_by_row.ensures
+    ∙ sym (own-by-word _ _ _ _ _ (c.in_ok-op.ensures ∙ asked (goal.at.returns c).After-word_by_code) (sym c.if-goes_elsewhere.false ∙ c.goes_elsewhere.ensures))
 
-pub read_operands-requires : goal.read_operands-requires
-read_operands-requires c = let h = c.requires in record { some = h.0; few = omega arith; near = omega arith }
+pub read_by_row-requires : goal.read_by_row-requires
+read_by_row-requires c = let h = c.requires in record { some = h.0; few = omega arith; near = omega arith }

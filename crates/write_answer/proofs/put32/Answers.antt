@@ -1,9 +1,9 @@
 -- The four bytes stored are those of the number.
-use mathlib.Core.Path.{◌≡◌, refl, sym, ap, ap₂, ◌∙◌}
+use mathlib.Core.Path.{◌≡◌, refl, sym, ap₂, ◌∙◌}
 use mathlib.Core.List.{List, ◌++◌}
 use Prim.Native.Nat.{ℕ, ◌+◌, ◌-◌, ◌≤◌}
 use native.Mathlib.{Omega.arith}
-use lib.{ListN.length, ListN.take, ListN.drop}
+use lib.{ListN.length, ListN.take}
 use borrow.Rule.Slice.PartMut.{post_of, Post-is}
 use Rattle.std.specs.Int.{w32, to_le_bytes}
 use Rattle.model.specs.{Placed.placed, Answer.le32}

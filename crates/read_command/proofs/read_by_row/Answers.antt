@@ -4,7 +4,7 @@ use Rattle.model.specs.{Command.by_row, Command.limits, Parsed.got}
 use Rattle.read_command.specs.Command.{shape_as}
 use Rattle.read_command.specs.declared.Shape.{Shape}
 use Rattle.read_command.proofs.Laws.{alone-is, parts-not, parts_none, parts-behind}
-use Rattle.read_command.proofs.read_operands.Goals as goal
+use Rattle.read_command.proofs.read_by_row.Goals as goal
 
 pub returns-then-e-s : goal.returns-then-e-s
 returns-then-e-s c = c.read_parts.ensures ∙ ap (by_row _ _ (shape_as c.args.shape)) (sym (parts-behind _ _ c.if-e-s.true))
