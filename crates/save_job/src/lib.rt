@@ -5,8 +5,8 @@
 ghost use Rattle.std.specs.Prelude.{◌≡◌, ℕ};
 ghost use Rattle.model.specs.{Stored.Stored, Stored.job_of, Accepted.Sound, Refusal.number_of, Written.text, Written.told, Written.written, Written.write};
 ghost use Rattle.model_sheet.specs.Sheet.{sheet_text};
-ghost use Rattle.model_change.specs.{Change.draft_of, Changed.change_in, Changed.Savable};
-ghost use Rattle.save_job.specs.Saved.{fitted_or, change_by, SavableBy};
+ghost use Rattle.model_change.specs.{Change.draft_of, Changed.change_by, Changed.change_in, Changed.Savable, Changed.SavableBy};
+ghost use Rattle.save_job.specs.Saved.{fitted_or};
 
 use model::{Refusal, StoredJob, TextAnswer, TextFault};
 use model_sheet::LONGEST_SHEET;
@@ -78,8 +78,8 @@ pub fn try_save_job(job: StoredJob, short: Refusal, output: &mut [u8]) -> Result
 
 // Writes what a request made of a job, or answers the number that refuses it.
 pub fn save_changed(changed: Result<StoredJob, u32>, short: u32, output: &mut [u8]) -> TextAnswer
-    requires { SavableBy changed }
-    ensures { written result output.new ≡ write short output.old (draft_of (change_by changed)) }
+    requires { SavableBy (λ n. n) changed }
+    ensures { written result output.new ≡ write short output.old (draft_of (change_by (λ n. n) changed)) }
 {
     match changed {
         Ok(job) => save_job(job, short, output),

@@ -1,12 +1,26 @@
--- Numbers of 32 bits, stored one after the other.
+-- What a run comes to where a refusal is told by its number, and numbers of 32 bits, stored one after the other.
 use Prim.Native.Nat.{ℕ, ◌+◌, ◌*◌, ◌/◌, ◌%◌, ◌≤◌, ◌<◌}
 use native.Mathlib.{Omega.arith, Numerals.add-one}
 use mathlib.Core.Path.{◌≡◌, refl, sym, ap, ap₂, ◌∙◌}
 use mathlib.Core.List.{List, [], ◌∷◌, ◌++◌, append_assoc, append-nil}
 use lib.{ListN.length, ListN.get_or, ListN.take, ListN.length-append, Seq.take-suc, Seq.take_all, Seq.length-take-le}
-use Rattle.model.specs.{Placed.placed, Answer.le32, Answer.all_le32, Answer.bytes_for, Written.text_numbers, Written.low_numbers}
-use Rattle.model.specs.declared.TextAnswer.{TextAnswer}
+use Rattle.std.proofs.Common.{Ok, Err}
+use Rattle.model.specs.{Placed.placed, Refusal.number_of, Answer.answer_as, Answer.numbers_of, Answer.le32, Answer.all_le32, Answer.bytes_for, Written.text_numbers, Written.low_numbers}
+use Rattle.model.specs.declared.{TextAnswer.TextAnswer, Ended.Ended, Fault.Fault}
+use Rattle.write_answer.specs.Told.{answer_by}
 use Rattle.model.proofs.Placed.{placed-append, placed-front, front-whole}
+
+-- a run that ends, and a fault told by its number and line, are the model's answer of them
+pub ends-as : (r : Ended) → answer_by (Ok r) ≡ answer_as (Ok r)
+ends-as r = refl
+
+pub refused-as : (f : Fault) → answer_by (Err (number_of f.refusal, f.line)) ≡ answer_as (Err f)
+refused-as f = refl
+
+-- a number that is none of the papers' refusals, computed
+pub refused-any : numbers_of (answer_by (Err (4294967295, 7))) ≡ 4294967295 ∷ 7 ∷ 0 ∷ 0 ∷ 0 ∷ 0 ∷ 0 ∷ []
+unfolding numbers_of
+refused-any = refl
 
 le32-length : (n : ℕ) → length (le32 n) ≡ 4
 unfolding le32
